@@ -1,0 +1,4 @@
+pub mod Bits
+pub mod Wrap
+pub mod Published
+pub mod Cases

@@ -1,0 +1,103 @@
+-- The published contracts hold of the definitions. Assumes nothing.
+use Prim.Native.Nat.{ℕ, _+_, _-_, _^_}
+use mathlib.Core.Bool.{Bool, true, false, Bool·beq, true≢false, false≢true}
+use mathlib.Core.Logic.{inl, inr}
+use mathlib.Core.Path.{_≡_, refl, sym, _∙_, ap}
+use native.Mathlib.Nat.{mod-eq-of-lt}
+use native.Mathlib.Omega.{arith}
+use lib.Dec.{eqb}
+use borrow.Author.Tests.{lt-ltb, le-ltb, le-leb, lt-leb, eq-eqb, ne-eqb, eqb-true, eqb-false}
+use Rattle.atomic.specs.Pick.{pick}
+use Rattle.atomic.specs.Access.{Access, refused, make, fetches, compareExchange}
+use Rattle.atomic.specs.Published as published
+use Rattle.atomic.specs.declared.Refusal.the-variants.{Foreign}
+use Rattle.atomic.proofs.Bits.{word-below, bit-of-word, bits-decide}
+use Rattle.atomic.proofs.Wrap.{once-past}
+
+pub keeps-identity : published.KeepsIdentity
+keeps-identity A c p access = either-way (eqb (c .0) (p .id .0))
+  where
+    either-way : (t : Bool) → pick t (make p access) (record { perm = p; answer = refused Foreign }) .perm .id ≡ p .id
+    either-way true = refl
+    either-way false = refl
+
+pub identity-asked : published.IdentityAsked
+identity-asked A c p access = (λ e. simp (eq-eqb _ _ e), λ ne. simp (ne-eqb _ _ ne), refl)
+
+pub load : published.Load
+load A was = refl
+
+pub store : published.Store
+store A v was = refl
+
+pub swap : published.Swap
+swap A v was = refl
+
+-- two replies of different kinds are never equal: `cc` says so as this
+zero-one : _≡_ {A = ℕ} 0 1 → ⊥
+zero-one e = omega arith
+
+-- for any test of equality
+module _ {A : Type 0} (same : A → A → Bool) (yes : (x y : A) → same x y ≡ true → x ≡ y) (no : (x y : A) → same x y ≡ false → x ≡ y → ⊥) (current new was : A) where
+  arms : (t : Bool) → same was current ≡ t → published.Arms current new was (compareExchange same current new was)
+  arms true e = rw e (λ r a. (sym (yes was current e), refl, cc), λ r a. absurd (zero-one cc), inl refl)
+  arms false e = rw e (λ r a. absurd (zero-one cc), λ r a. (λ q. no was current e (sym q), refl, cc), inr refl)
+
+  pub exchanged : published.Arms current new was (compareExchange same current new was)
+  exchanged = arms (same was current) refl
+
+beq-yes : (x y : Bool) → Bool·beq x y ≡ true → x ≡ y
+beq-yes true true e = refl
+beq-yes true false e = cc
+beq-yes false true e = cc
+beq-yes false false e = refl
+
+beq-no : (x y : Bool) → Bool·beq x y ≡ false → x ≡ y → ⊥
+beq-no true true e q = true≢false e
+beq-no true false e q = true≢false q
+beq-no false true e q = false≢true q
+beq-no false false e q = true≢false e
+
+pub exchange : published.Exchange
+exchange = (exchanged eqb eqb-true eqb-false, exchanged Bool·beq beq-yes beq-no)
+
+pub weak-exchange : published.WeakExchange
+weak-exchange = exchange
+
+pub add : published.Add
+add w n was = (λ h. simp (lt-ltb _ _ h), λ h. simp (le-ltb _ _ h), refl)
+
+pub sub : published.Sub
+sub n was = (λ h. simp (le-leb _ _ h), λ h. simp (lt-leb _ _ h), refl)
+
+pub add-wrapping : published.AddWrapping
+add-wrapping w n was hn hw =
+    (λ h. ap (fetches was) (mod-eq-of-lt h), λ h. ap (fetches was) (once-past (2 ^ w) (was + n) h (omega arith)))
+
+pub sub-wrapping : published.SubWrapping
+sub-wrapping w n was hn hw =
+    (λ h. ap (fetches was) (once-past (2 ^ w) (was + (2 ^ w - n)) (omega arith) (omega arith) ∙ omega arith), λ h. ap (fetches was) (mod-eq-of-lt (omega arith) ∙ omega arith))
+
+pub and : published.And
+and w n was = (refl, word-below w _, bit-of-word w _)
+
+pub or : published.Or
+or w n was = (refl, word-below w _, bit-of-word w _)
+
+pub xor : published.Xor
+xor w n was = (refl, word-below w _, bit-of-word w _)
+
+pub nand : published.Nand
+nand w n was = (refl, word-below w _, bit-of-word w _)
+
+pub max : published.Max
+max n was = (λ h. simp (lt-ltb _ _ h), λ h. simp (le-ltb _ _ h))
+
+pub flag-and : published.FlagAnd
+flag-and n was = refl
+
+pub flag-or : published.FlagOr
+flag-or n was = refl
+
+pub flag-xor : published.FlagXor
+flag-xor n was = refl
