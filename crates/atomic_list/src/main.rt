@@ -10,23 +10,13 @@ ghost use lib.ListN.{length, getD};
 use atomic::CellId;
 use atomic::Count;
 use libc::STDIN_FILENO;
-use libc::STDOUT_FILENO;
+use tally::Tally;
 
 // Room for a line: no row that can be read has more than 176 bytes.
 const ROOM: usize = 256;
 
 // The length of a line that is longer than the room.
 const TOO_LONG: usize = usize::MAX;
-
-// How many lines that differ are named.
-const NAMED: u64 = 5;
-
-struct Tally {
-    // The number of the line that is being read, from 1.
-    line: u64,
-    equal: u64,
-    different: u64,
-}
 
 struct State {
     // How much of a line stands in its room.
@@ -39,11 +29,7 @@ fn main() {
     let mut line = [0u8; ROOM];
     let mut state = State {
         length: 0,
-        tally: Tally {
-            line: 1,
-            equal: 0,
-            different: 0,
-        },
+        tally: tally::start(),
         at_end: false,
     };
     // A proved loop has to end, and nothing says that the input does: it counts its turns down from a
@@ -53,7 +39,7 @@ fn main() {
         state = read_some(&mut line, state);
         turns -= 1;
     }
-    report(finish(state));
+    tally::report(finish(state));
 }
 
 // Reads once. A read that fails ends the list, and the number of rows then shows it.
@@ -113,20 +99,16 @@ fn push(line: &mut [u8; ROOM], state: State, b: u8) -> State {
 fn end_line(tally: Tally, line: &[u8], n: usize) -> Tally {
     let header = b"width,operation,atomic,permission,value,a,b,number,arm,got,left";
     if n > line.len() {
-        return count(tally, false);
+        return tally::count(tally, false);
     }
     let text = &line[0..n];
     if tally.line > 1 {
-        return count(tally, agrees(text));
+        return tally::count(tally, agrees(text));
     }
     if check::same(text, header) {
-        return Tally {
-            line: 2,
-            equal: 0,
-            different: 0,
-        };
+        return tally::pass(tally);
     }
-    count(tally, false)
+    tally::count(tally, false)
 }
 
 // A last line with no break may be cut short.
@@ -135,48 +117,8 @@ fn finish(state: State) -> Tally {
     if state.length == 0 {
         tally
     } else {
-        count(tally, false)
+        tally::count(tally, false)
     }
-}
-
-// The tally with one row more. The first lines that differ are named as they come.
-fn count(tally: Tally, is_equal: bool) -> Tally {
-    if is_equal {
-        return Tally {
-            line: up(tally.line),
-            equal: up(tally.equal),
-            different: tally.different,
-        };
-    }
-    if tally.different < NAMED {
-        print(b"different at line ", tally.line);
-    }
-    Tally {
-        line: up(tally.line),
-        equal: tally.equal,
-        different: up(tally.different),
-    }
-}
-
-// One more. A count that cannot grow stays, so that none turns over to 0.
-fn up(n: u64) -> u64 {
-    if n < u64::MAX { n + 1 } else { n }
-}
-
-fn report(tally: Tally) {
-    print(b"rows ", sum(tally.equal, tally.different));
-    print(b"equal ", tally.equal);
-    print(b"different ", tally.different);
-}
-
-fn sum(a: u64, b: u64) -> u64 {
-    if a <= u64::MAX - b { a + b } else { u64::MAX }
-}
-
-fn print(what: &[u8], n: u64) {
-    io::write_all(STDOUT_FILENO, what);
-    io::print_decimal(STDOUT_FILENO, n);
-    io::write_all(STDOUT_FILENO, b"\n");
 }
 
 // A row of the list: read, replayed and compared. Its fields are the width (64, 8, or 1 for bool), the

@@ -1,0 +1,81 @@
+-- The laws of an InvCell. The heart is `after-is`: after any calls the cell holds the last value accepted. The predicate is never
+-- opened: all goes by the test of what it permits. Assumes nothing.
+use Prim.Native.Nat.{ℕ}
+use mathlib.Core.Bool.{Bool, true, false}
+use mathlib.Core.Path.{_≡_, refl}
+use mathlib.Core.List.{List, [], _∷_, _++_}
+use Rattle.atomic.specs.Pick.{pick}
+use Rattle.cell.specs.Access.{keeps, answerOf}
+use Rattle.cell.specs.Pred.{permits}
+use Rattle.cell.specs.Inv.{holding, withoutValue}
+use Rattle.cell.specs.Calls.{Call, sets, replaces, brings, call, after, accepted, last}
+use Rattle.cell.specs.InvLaws.{NewExact, NumberedByPredicate, AsLastAccepted, HoldsLastAccepted, BadMakesNone}
+use Rattle.cell.specs.declared.Answer.{Answer}
+use Rattle.cell.specs.declared.Answer.the-variants.{Value, Refused}
+use Rattle.cell.specs.declared.Refusal.the-variants.{NotPermitted}
+use Rattle.cell.specs.declared.pred.Pred.{Pred}
+use Rattle.cell.specs.declared.inv.InvCell.{InvCell}
+use Rattle.cell.specs.declared.inv.Made.the-variants.{Cell, NotMade}
+use Rattle.cell.proofs.PredLaws.{bad-permits-none}
+
+pub new-exact : NewExact
+new-exact p v = (λ e. rw e, λ e. rw e)
+
+numbered : (b : Bool) (w v : ℕ) →
+    (answerOf (pick b (record { leaves = w; answers = Value v }) (keeps v (Refused NotPermitted)) .answers) ≡ pick b 0 25)
+    × (answerOf (withoutValue (pick b (record { leaves = w; answers = Value v }) (keeps v (Refused NotPermitted)) .answers)) ≡ pick b 0 25)
+numbered true w v = (refl, refl)
+numbered false w v = (refl, refl)
+
+pub numbered-by-predicate : NumberedByPredicate
+numbered-by-predicate c (sets w) = numbered (permits (c .pred) w) w (c .value) .1
+numbered-by-predicate c (replaces w) = numbered (permits (c .pred) w) w (c .value) .0
+
+pub bad-makes-none : BadMakesNone
+bad-makes-none p v bad = rw (bad-permits-none p v bad)
+
+-- what `new` has made
+pub made : (p : Pred) (v : ℕ) (c : InvCell) (b : Bool) → pick b (Cell (holding p v)) (NotMade NotPermitted) ≡ Cell c → (c ≡ holding p v) × (b ≡ true)
+made p v c true e = (cc, refl)
+made p v c false e = (cc, cc)
+
+leaves : (b : Bool) (w v : ℕ) (said kept : Answer) → pick b (record { leaves = w; answers = said }) (keeps v kept) .leaves ≡ pick b w v
+leaves true w v said kept = refl
+leaves false w v said kept = refl
+
+pub called : (p : Pred) (v : ℕ) (k : Call) → call (holding p v) k .cell ≡ holding p (pick (permits p (brings k)) (brings k) v)
+called p v (sets w) = rw (leaves (permits p w) w v (Value v) (Refused NotPermitted))
+called p v (replaces w) = rw (leaves (permits p w) w v (Value v) (Refused NotPermitted))
+
+last-pick : (b : Bool) (w v : ℕ) (ws : List ℕ) → last (pick b w v) ws ≡ last v (pick b (w ∷ ws) ws)
+unfolding last
+last-pick true w v ws = refl
+last-pick false w v ws = refl
+
+after-is : (p : Pred) (v : ℕ) (ks : List Call) → after (holding p v) ks ≡ holding p (last v (accepted p ks))
+unfolding after accepted last
+after-is p v [] = refl
+after-is p v (k ∷ ks) = rw (called p v k, after-is p (pick (permits p (brings k)) (brings k) v) ks, last-pick (permits p (brings k)) (brings k) v (accepted p ks))
+
+accepted-skip : (p : Pred) (ks : List Call) (k : Call) (later : List Call) → permits p (brings k) ≡ false → accepted p (ks ++ (k ∷ later)) ≡ accepted p (ks ++ later)
+unfolding accepted
+accepted-skip p [] k later e = rw e
+accepted-skip p (j ∷ ks) k later e = rw (accepted-skip p ks k later e)
+
+refuses : (p : Pred) (v : ℕ) (k : Call) → permits p (brings k) ≡ false → call (holding p v) k ≡ record { cell = holding p v; answer = Refused NotPermitted }
+refuses p v (sets w) e = rw e
+refuses p v (replaces w) e = rw e
+
+as-last : (p : Pred) (v : ℕ) (calls : List Call) → AsLastAccepted p v (holding p v) calls
+as-last p v calls =
+    record {
+      gets = rw (after-is p v calls);
+      moves-out = rw (after-is p v calls);
+      set-stores = λ w e. rw (after-is p v calls, e);
+      replace-returns = λ w e. rw (after-is p v calls, e);
+      refuses = λ k e. rw (after-is p v calls) (refuses p (last v (accepted p calls)) k e);
+      forgets-refused = λ k later e. rw (after-is p v (calls ++ (k ∷ later)), after-is p v (calls ++ later), accepted-skip p calls k later e);
+    }
+
+pub holds-last-accepted : HoldsLastAccepted
+holds-last-accepted p v c e calls = rw (made p v c (permits p v) e .0) (as-last p v calls)

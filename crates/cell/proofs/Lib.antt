@@ -1,0 +1,5 @@
+pub mod ValueLaws
+pub mod PredLaws
+pub mod InvLaws
+pub mod Published
+pub mod Examples

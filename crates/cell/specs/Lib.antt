@@ -1,0 +1,10 @@
+pub mod Access
+pub mod Value
+pub mod ValueLaws
+pub mod Pred
+pub mod PredLaws
+pub mod Inv
+pub mod Calls
+pub mod InvLaws
+pub mod Published
+pub mod Examples
