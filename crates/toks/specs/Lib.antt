@@ -1,0 +1,3 @@
+pub mod Multiset
+pub mod Toks
+pub mod Invariants
