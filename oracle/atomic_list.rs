@@ -19,6 +19,16 @@ use std::sync::atomic::{AtomicBool, AtomicU64, AtomicU8};
 
 const HEADER: &str = "width,operation,atomic,permission,value,a,b,number,arm,got,left";
 
+// The last rows are wrong on purpose: one in its number, arm, value returned and value left each, and one that lacks a field. A replay
+// that found them equal would show it.
+const WRONG: [&str; 5] = [
+    "64,fetch_add,1,1,7,1,0,22,1,7,8",
+    "64,fetch_add,1,1,7,1,0,0,2,7,8",
+    "64,fetch_add,1,1,7,1,0,0,1,8,8",
+    "64,fetch_add,1,1,7,1,0,0,1,7,7",
+    "64,fetch_add,1,1,7,1,0,0,1,7",
+];
+
 const FOREIGN: u64 = 21;
 const OUTSIDE: u64 = 22;
 
@@ -376,6 +386,9 @@ fn main() -> io::Result<()> {
     for op in BOOL_OPS {
         list.operation(&flags, op, &mut random)?;
     }
-    eprintln!("{} rows", list.rows);
+    for row in WRONG {
+        writeln!(list.out, "{row}")?;
+    }
+    eprintln!("{} rows, and {} wrong ones", list.rows, WRONG.len());
     list.out.flush()
 }

@@ -27,6 +27,17 @@ use std::io::{self, BufWriter, Write};
 
 const HEADER: &str = "call,a,b,c,d,number,got,full,kept";
 
+// The last rows are wrong on purpose, after an InvCell that holds 5: one in its number, the value given back, full and kept each, and one
+// that lacks a field. A replay that found them equal would show it.
+const WRONG: [&str; 6] = [
+    "4,0,0,0,5,0,0,1,5",
+    "7,0,0,0,0,25,5,1,5",
+    "7,0,0,0,0,0,6,1,5",
+    "7,0,0,0,0,0,5,0,5",
+    "7,0,0,0,0,0,5,1,6",
+    "7,0,0,0,0,0,5,1",
+];
+
 const FOREIGN: u64 = 21;
 const IS_FULL: u64 = 23;
 const IS_EMPTY: u64 = 24;
@@ -339,6 +350,9 @@ fn main() -> io::Result<()> {
     for (i, name) in NAMES.iter().enumerate() {
         eprintln!("{name}: {} rows, {} refused", list.rows[i], list.refused[i]);
     }
-    eprintln!("{} rows", list.rows.iter().sum::<u64>());
+    for row in WRONG {
+        writeln!(list.out, "{row}")?;
+    }
+    eprintln!("{} rows, and the last {}", list.rows.iter().sum::<u64>(), WRONG.len());
     list.out.flush()
 }

@@ -1,9 +1,9 @@
 -- A number of w bits is the number that its bits make, and what the machine's bit operations do to each bit. Once, over the width.
 -- Assumes nothing.
-use Prim.Native.Nat.{ℕ, zero, suc, _+_, _-_, _*_, _/_, _%_, _^_, _<_, _≤_, min, max}
-use mathlib.Core.Bool.{Bool, true, false, not, Bool·beq}
+use Prim.Native.Nat.{ℕ, zero, suc, _+_, _-_, _*_, _/_, _%_, _^_, _<_, min, max}
+use mathlib.Core.Bool.{Bool, true, false, not, Bool·beq, cond}
 use mathlib.Core.Path.{_≡_, refl, sym, _∙_, ap, subst}
-use native.Mathlib.Nat.{mul-assoc, add-comm, add-mul-div-right, add-mul-mod-self-right, mod-eq-of-lt, pow-suc, mod-lt, mul-add-mod-self-right}
+use native.Mathlib.Nat.{mul-assoc, add-comm, add-mul-div-right, add-mul-mod-self-right, mod-eq-of-lt, pow-suc, mod-lt}
 use native.Mathlib.Numerals.{one-add}
 use native.Mathlib.Omega.{arith}
 use lib.Dec.{eqb, ltb}
@@ -12,13 +12,12 @@ use lib.Arith.{digits-mod, digits-div}
 use lib.Pow.{pow-add, mod-pow-add, pow-pos}
 use lib.Bits.{bitAnd, bitOr, bitXor, and-step, or-step, xor-step, and-shr, or-shr, xor-shr, and-lt, or-lt, xor-lt}
 use lib.Bits as lib-bits
-use Rattle.atomic.specs.Pick.{pick}
-use Rattle.atomic.specs.Published as published
-use Rattle.atomic.specs.Bits.{bit, word, bitwise, both, either, differ, notBoth}
+use Rattle.atomic.specs.Operators.{AndIs, OrIs, XorIs, NandIs}
+use Rattle.atomic.specs.Bits.{bit, word, bitwise, both, either, differ}
 
 -- a bit as a number
 abbrev digit : Bool → ℕ
-digit b = pick b 1 0
+digit b = cond b 1 0
 
 digit-of : (d : ℕ) → d < 2 → digit (eqb d 1) ≡ d
 digit-of zero h = refl
@@ -54,8 +53,8 @@ word-same (suc k) f g e = rw (word-same k f g (λ j h. e j (omega arith)), e k (
 all-bits : (w x : ℕ) → x < 2 ^ w → x ≡ word w (λ k. bit k x)
 all-bits w x h = sym (bits-make w x ∙ mod-eq-of-lt h)
 
-pub bits-decide : published.BitsDecide
-bits-decide w x y hx hy e = all-bits w x hx ∙ word-same w _ _ e ∙ sym (all-bits w y hy)
+pub same-bits : (w x y : ℕ) → x < 2 ^ w → y < 2 ^ w → ((k : ℕ) → k < w → bit k x ≡ bit k y) → x ≡ y
+same-bits w x y hx hy e = all-bits w x hx ∙ word-same w _ _ e ∙ sym (all-bits w y hy)
 
 -- A machine operation on numbers, which works digit by digit: each bit of its result is f of the two bits.
 module _ (op d : ℕ → ℕ → ℕ) (f : Bool → Bool → Bool) (step : (a b : ℕ) → op a b ≡ op (a / 2) (b / 2) * 2 + d (a % 2) (b % 2)) (shift : (a b k : ℕ) → op a b / 2 ^ k ≡ op (a / 2 ^ k) (b / 2 ^ k)) (is : (x y : ℕ) → x < 2 → y < 2 → (d x y < 2) × (eqb (d x y) 1 ≡ f (eqb x 1) (eqb y 1))) where
@@ -70,15 +69,17 @@ module _ (op d : ℕ → ℕ → ℕ) (f : Bool → Bool → Bool) (step : (a b 
   by-bits : (w a b : ℕ) → op a b < 2 ^ w → op a b ≡ bitwise w f a b
   by-bits w a b h = all-bits w (op a b) h ∙ word-same w _ _ (λ k l. each k a b)
 
-module _ (w a b : ℕ) (ha : a < 2 ^ w) (hb : b < 2 ^ w) where
-  pub and-is : bitAnd a b ≡ bitwise w both a b
-  and-is = by-bits bitAnd min both and-step and-shr (digits-are _ (omega arith, refl) (omega arith, refl) (omega arith, refl) (omega arith, refl)) w a b (and-lt w a b ha hb)
+pub and-is : AndIs
+and-is w a b ha hb =
+    by-bits bitAnd min both and-step and-shr (digits-are _ (omega arith, refl) (omega arith, refl) (omega arith, refl) (omega arith, refl)) w a b (and-lt w a b ha hb)
 
-  pub or-is : bitOr a b ≡ bitwise w either a b
-  or-is = by-bits bitOr max either or-step or-shr (digits-are _ (omega arith, refl) (omega arith, refl) (omega arith, refl) (omega arith, refl)) w a b (or-lt w a b ha hb)
+pub or-is : OrIs
+or-is w a b ha hb =
+    by-bits bitOr max either or-step or-shr (digits-are _ (omega arith, refl) (omega arith, refl) (omega arith, refl) (omega arith, refl)) w a b (or-lt w a b ha hb)
 
-  pub xor-is : bitXor a b ≡ bitwise w differ a b
-  xor-is = by-bits bitXor lib-bits.differ differ xor-step xor-shr (digits-are _ (omega arith, refl) (omega arith, refl) (omega arith, refl) (omega arith, refl)) w a b (xor-lt w a b ha hb)
+pub xor-is : XorIs
+xor-is w a b ha hb =
+    by-bits bitXor lib-bits.differ differ xor-step xor-shr (digits-are _ (omega arith, refl) (omega arith, refl) (omega arith, refl) (omega arith, refl)) w a b (xor-lt w a b ha hb)
 
 one-of-two : (b : Bool) (n : ℕ) → digit b * n + digit (not b) * n ≡ n
 one-of-two true n = omega arith
@@ -90,7 +91,7 @@ unfolding word
 others zero f = refl
 others (suc k) f = omega (arith, others k f, pow-suc 2 k, one-of-two (f k) (2 ^ k))
 
-pub nand-is : (w a b : ℕ) → a < 2 ^ w → b < 2 ^ w → (2 ^ w - 1) - bitAnd a b ≡ bitwise w notBoth a b
+pub nand-is : NandIs
 nand-is w a b ha hb = omega (arith, others w (λ k. both (bit k a) (bit k b)), and-is w a b ha hb)
 
 pub word-below : (w : ℕ) (f : ℕ → Bool) → word w f < 2 ^ w

@@ -1,4 +1,5 @@
 pub mod Bits
 pub mod Wrap
+pub mod Fits
 pub mod Published
 pub mod Cases

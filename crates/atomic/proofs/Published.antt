@@ -1,28 +1,49 @@
 -- The published contracts hold of the definitions. Assumes nothing.
 use Prim.Native.Nat.{ℕ, _+_, _-_, _^_}
-use mathlib.Core.Bool.{Bool, true, false, Bool·beq, true≢false, false≢true}
+use mathlib.Core.Bool.{Bool, true, false, Bool·beq, true≢false, false≢true, cond}
 use mathlib.Core.Logic.{inl, inr}
 use mathlib.Core.Path.{_≡_, refl, sym, _∙_, ap}
 use native.Mathlib.Nat.{mod-eq-of-lt}
 use native.Mathlib.Omega.{arith}
-use lib.Dec.{eqb}
+use lib.Dec.{eqb, ltb, leb}
 use borrow.Author.Tests.{lt-ltb, le-ltb, le-leb, lt-leb, eq-eqb, ne-eqb, eqb-true, eqb-false}
-use Rattle.atomic.specs.Pick.{pick}
-use Rattle.atomic.specs.Access.{Access, refused, make, fetches, compareExchange}
+use Rattle.atomic.specs.Access.{Access, Done, refused, make, fetches, compareExchange, answerOf}
 use Rattle.atomic.specs.Published as published
 use Rattle.atomic.specs.declared.Refusal.the-variants.{Foreign}
-use Rattle.atomic.proofs.Bits.{word-below, bit-of-word, bits-decide}
+use Rattle.atomic.proofs.Bits.{word-below, bit-of-word, same-bits}
 use Rattle.atomic.proofs.Wrap.{once-past}
 
 pub keeps-identity : published.KeepsIdentity
 keeps-identity A c p access = either-way (eqb (c .0) (p .id .0))
   where
-    either-way : (t : Bool) → pick t (make p access) (record { perm = p; answer = refused Foreign }) .perm .id ≡ p .id
+    either-way : (t : Bool) → cond t (make p access) (record { perm = p; answer = refused Foreign }) .perm .id ≡ p .id
     either-way true = refl
     either-way false = refl
 
 pub identity-asked : published.IdentityAsked
-identity-asked A c p access = (λ e. simp (eq-eqb _ _ e), λ ne. simp (ne-eqb _ _ ne), refl)
+identity-asked A c p access =
+    (λ e. simp (eq-eqb _ _ e) (refl, refl, sym e), λ ne. simp (ne-eqb _ _ ne))
+
+answered : {A : Type 0} (t : Bool) (x y : Done A) → answerOf (cond t x y .answer) ≡ cond t (answerOf (x .answer)) (answerOf (y .answer))
+answered true x y = refl
+answered false x y = refl
+
+replied : {A : Type 0} (t : Bool) (x y : Access A) → answerOf (cond t x y .answers) ≡ cond t (answerOf (x .answers)) (answerOf (y .answers))
+replied true x y = refl
+replied false x y = refl
+
+never : (t : Bool) → _≡_ {A = ℕ} (cond t 0 0) 0
+never true = refl
+never false = refl
+
+pub numbered : published.Numbered
+numbered = (
+  λ A c p access. answered (eqb (c .0) (p .id .0)) _ _,
+  λ w n was. replied (ltb (was + n) (2 ^ w)) _ _,
+  λ n was. replied (leb n was) _ _,
+  λ A same v to was. (refl, refl, refl, replied (same was v) _ _ ∙ never (same was v), replied (same was v) _ _ ∙ never (same was v)),
+  λ w n was. (refl, refl, refl),
+)
 
 pub load : published.Load
 load A was = refl
@@ -65,10 +86,10 @@ pub weak-exchange : published.WeakExchange
 weak-exchange = exchange
 
 pub add : published.Add
-add w n was = (λ h. simp (lt-ltb _ _ h), λ h. simp (le-ltb _ _ h), refl)
+add w n was = (λ h. simp (lt-ltb _ _ h), λ h. simp (le-ltb _ _ h))
 
 pub sub : published.Sub
-sub n was = (λ h. simp (le-leb _ _ h), λ h. simp (lt-leb _ _ h), refl)
+sub n was = (λ h. simp (le-leb _ _ h), λ h. simp (lt-leb _ _ h))
 
 pub add-wrapping : published.AddWrapping
 add-wrapping w n was hn hw =
@@ -89,6 +110,9 @@ xor w n was = (refl, word-below w _, bit-of-word w _)
 
 pub nand : published.Nand
 nand w n was = (refl, word-below w _, bit-of-word w _)
+
+pub bits-decide : published.BitsDecide
+bits-decide = same-bits
 
 pub max : published.Max
 max n was = (λ h. simp (lt-ltb _ _ h), λ h. simp (le-ltb _ _ h))

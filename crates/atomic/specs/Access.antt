@@ -1,9 +1,8 @@
 -- What each access of an atomic leaves in the permission and what it answers, from the published contracts: one definition an
 -- operation, for every width. `was` is the value before the access, and w the width in bits.
 use Prim.Native.Nat.{ℕ, _+_, _-_, _%_, _^_}
-use mathlib.Core.Bool.{Bool}
+use mathlib.Core.Bool.{Bool, cond}
 use lib.Dec.{ltb, leb, eqb}
-use Rattle.atomic.specs.Pick.{pick}
 use Rattle.atomic.specs.declared.CellId.{CellId}
 use Rattle.atomic.specs.declared.Refusal.{Refusal}
 use Rattle.atomic.specs.declared.Refusal.the-variants.{Foreign, Outside}
@@ -24,6 +23,13 @@ pub data Reply (A : Type 0) : Type 0 where
 abbrev pub numberOf : Refusal → ℕ
 numberOf Foreign = 21
 numberOf Outside = 22
+
+-- the number of an answer, 0 for what was done
+abbrev pub answerOf : {A : Type 0} → Reply A → ℕ
+answerOf (old v) = 0
+answerOf (failed v) = 0
+answerOf nothing = 0
+answerOf (refused why) = numberOf why
 
 pub record Access (A : Type 0) : Type 0 where
   pub leaves : A
@@ -48,17 +54,17 @@ module _ {A : Type 0} where
 
   -- `same` tells whether two values are equal
   abbrev pub compareExchange : (A → A → Bool) → A → A → A → Access A
-  compareExchange same from to was = pick (same was from) (fetches was to) (keeps was (failed was))
+  compareExchange same from to was = cond (same was from) (fetches was to) (keeps was (failed was))
 
   -- answers as the strong form
   abbrev pub compareExchangeWeak : (A → A → Bool) → A → A → A → Access A
   compareExchangeWeak same from to was = compareExchange same from to was
 
 abbrev pub fetchAdd : ℕ → ℕ → ℕ → Access ℕ
-fetchAdd w n was = pick (ltb (was + n) (2 ^ w)) (fetches was (was + n)) (keeps was (refused Outside))
+fetchAdd w n was = cond (ltb (was + n) (2 ^ w)) (fetches was (was + n)) (keeps was (refused Outside))
 
 abbrev pub fetchSub : ℕ → ℕ → Access ℕ
-fetchSub n was = pick (leb n was) (fetches was (was - n)) (keeps was (refused Outside))
+fetchSub n was = cond (leb n was) (fetches was (was - n)) (keeps was (refused Outside))
 
 abbrev pub fetchAddWrapping : ℕ → ℕ → ℕ → Access ℕ
 fetchAddWrapping w n was = fetches was ((was + n) % 2 ^ w)
@@ -80,7 +86,7 @@ abbrev pub fetchNand : ℕ → ℕ → ℕ → Access ℕ
 fetchNand w n was = fetches was (bitwise w notBoth was n)
 
 abbrev pub fetchMax : ℕ → ℕ → Access ℕ
-fetchMax n was = fetches was (pick (ltb n was) was n)
+fetchMax n was = fetches was (cond (ltb n was) was n)
 
 -- of true and false: and, or and xor are f of the two
 abbrev pub fetchBool : (Bool → Bool → Bool) → Bool → Bool → Access Bool
@@ -103,4 +109,4 @@ module _ {A : Type 0} where
 
   -- an access of the atomic c with the permission p, which is not made where their identities differ
   abbrev pub on : CellId → Permission A → (A → Access A) → Done A
-  on c p access = pick (eqb (c .0) (p .id .0)) (make p access) (record { perm = p; answer = refused Foreign })
+  on c p access = cond (eqb (c .0) (p .id .0)) (make p access) (record { perm = p; answer = refused Foreign })

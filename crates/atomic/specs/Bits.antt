@@ -1,8 +1,7 @@
 -- A number by its bits: bit k of x says whether 2 ^ k is among the powers of two whose sum is x.
 use Prim.Native.Nat.{ℕ, zero, suc, _+_, _*_, _/_, _%_, _^_}
-use mathlib.Core.Bool.{Bool, not, _&&_, _||_}
+use mathlib.Core.Bool.{Bool, not, _&&_, _||_, cond}
 use lib.Dec.{eqb}
-use Rattle.atomic.specs.Pick.{pick}
 
 abbrev pub bit : ℕ → ℕ → Bool
 bit k x = eqb (x / 2 ^ k % 2) 1
@@ -10,7 +9,7 @@ bit k x = eqb (x / 2 ^ k % 2) 1
 -- the number of w bits whose bit k is f k
 unfoldable pub word : ℕ → (ℕ → Bool) → ℕ
 word zero f = 0
-word (suc k) f = word k f + pick (f k) 1 0 * 2 ^ k
+word (suc k) f = word k f + cond (f k) 1 0 * 2 ^ k
 
 -- the number of w bits whose bit k is f of the two numbers' bits k
 abbrev pub bitwise : ℕ → (Bool → Bool → Bool) → ℕ → ℕ → ℕ

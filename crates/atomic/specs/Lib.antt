@@ -1,5 +1,5 @@
-pub mod Pick
 pub mod Bits
+pub mod Operators
 pub mod Access
 pub mod Published
 pub mod Cases

@@ -1,24 +1,36 @@
 -- The published contracts of the source's atomics, clause for clause, as statements about the definitions of Access. The comments
 -- give the source's words: `old` and `final` are the permission before and after, `ret` is what is returned.
 use Prim.Native.Nat.{ℕ, _+_, _-_, _^_, _<_, _≤_}
-use mathlib.Core.Bool.{Bool, not, _&&_, _||_, Bool·beq}
+use mathlib.Core.Bool.{Bool, not, _&&_, _||_, Bool·beq, cond}
 use mathlib.Core.Logic.{_⊎_}
 use mathlib.Core.Path.{_≡_}
-use lib.Dec.{eqb}
+use lib.Dec.{eqb, ltb, leb}
 use Rattle.atomic.specs.declared.CellId.{CellId}
 use Rattle.atomic.specs.declared.Refusal.the-variants.{Foreign, Outside}
 use Rattle.atomic.specs.Bits.{bit, both, either, differ, notBoth}
-use Rattle.atomic.specs.Access.{old, failed, nothing, refused, Access, fetches, keeps, load, store, swap, compareExchange, compareExchangeWeak, fetchAdd, fetchSub, fetchAddWrapping, fetchSubWrapping, fetchAnd, fetchOr, fetchXor, fetchNand, fetchMax, fetchBool, Permission, Done, make, on, numberOf}
+use Rattle.atomic.specs.Access.{old, failed, nothing, refused, Access, fetches, keeps, load, store, swap, compareExchange, compareExchangeWeak, fetchAdd, fetchSub, fetchAddWrapping, fetchSubWrapping, fetchAnd, fetchOr, fetchXor, fetchNand, fetchMax, fetchBool, Permission, on, answerOf}
 
 -- final(perm).patomic == old(perm).patomic, of every access
 abbrev pub KeepsIdentity : Type 1
 KeepsIdentity = (A : Type 0) (c : CellId) (p : Permission A) (access : A → Access A) → on c p access .perm .id ≡ p .id
 
--- requires equal(self.id(), old(perm).patomic): where it is met the access is made, and else it is 21 and nothing changed
+-- requires equal(self.id(), old(perm).patomic): where it is met the access is made on the permission's value, and
+-- equal(self.id(), final(perm).patomic); else nothing is done and it is 21
 abbrev pub IdentityAsked : Type 1
 IdentityAsked =
     (A : Type 0) (c : CellId) (p : Permission A) (access : A → Access A)
-    → (c .0 ≡ p .id .0 → on c p access ≡ make p access) × ((c .0 ≡ p .id .0 → ⊥) → on c p access ≡ record { perm = p; answer = refused Foreign }) × (numberOf Foreign ≡ 21)
+    → (c .0 ≡ p .id .0 → (on c p access .perm .value ≡ access (p .value) .leaves) × (on c p access .answer ≡ access (p .value) .answers) × (on c p access .perm .id .0 ≡ c .0))
+    × ((c .0 ≡ p .id .0 → ⊥) → on c p access ≡ record { perm = p; answer = refused Foreign })
+
+-- the number of each answer: 21 where the identities differ, else 22 exactly where fetch_add or fetch_sub would leave the width, and
+-- 0 for what is done
+abbrev pub Numbered : Type 1
+Numbered =
+    ((A : Type 0) (c : CellId) (p : Permission A) (access : A → Access A) → answerOf (on c p access .answer) ≡ cond (eqb (c .0) (p .id .0)) (answerOf (access (p .value) .answers)) 21)
+    × ((w n was : ℕ) → answerOf (fetchAdd w n was .answers) ≡ cond (ltb (was + n) (2 ^ w)) 0 22)
+    × ((n was : ℕ) → answerOf (fetchSub n was .answers) ≡ cond (leb n was) 0 22)
+    × ((A : Type 0) (same : A → A → Bool) (v to was : A) → (answerOf (load was .answers) ≡ 0) × (answerOf (store v was .answers) ≡ 0) × (answerOf (swap v was .answers) ≡ 0) × (answerOf (compareExchange same v to was .answers) ≡ 0) × (answerOf (compareExchangeWeak same v to was .answers) ≡ 0))
+    × ((w n was : ℕ) → (answerOf (fetchAddWrapping w n was .answers) ≡ 0) × (answerOf (fetchSubWrapping w n was .answers) ≡ 0) × (answerOf (fetchMax n was .answers) ≡ 0))
 
 -- equal(perm.value, ret)
 abbrev pub Load : Type 1
@@ -55,13 +67,13 @@ WeakExchange =
 abbrev pub Add : Type 0
 Add =
     (w n was : ℕ)
-    → (was + n < 2 ^ w → fetchAdd w n was ≡ fetches was (was + n)) × (2 ^ w ≤ was + n → fetchAdd w n was ≡ keeps was (refused Outside)) × (numberOf Outside ≡ 22)
+    → (was + n < 2 ^ w → fetchAdd w n was ≡ fetches was (was + n)) × (2 ^ w ≤ was + n → fetchAdd w n was ≡ keeps was (refused Outside))
 
 -- requires MIN <= old(perm).value - n: met, final(perm).value == old(perm).value - n and ret is the old value; else 22
 abbrev pub Sub : Type 0
 Sub =
     (n was : ℕ)
-    → (n ≤ was → fetchSub n was ≡ fetches was (was - n)) × (was < n → fetchSub n was ≡ keeps was (refused Outside)) × (numberOf Outside ≡ 22)
+    → (n ≤ was → fetchSub n was ≡ fetches was (was - n)) × (was < n → fetchSub n was ≡ keeps was (refused Outside))
 
 -- final(perm).value == wrapping_add(old(perm).value, n), which is the sum, less the number of values where it leaves the width
 abbrev pub AddWrapping : Type 0

@@ -1,5 +1,4 @@
 -- The accesses in the types of the bool atomic.
-use Prim.Native.Nat.{ℕ}
 use mathlib.Core.Bool.{Bool, Bool·beq}
 use Rattle.atomic.specs.Bits.{both, either, differ}
 use Rattle.atomic.specs.Access.{Reply, old, failed, nothing, refused, Access, Permission, Done, make, on, load, store, swap, compareExchange, fetchBool}

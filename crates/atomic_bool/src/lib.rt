@@ -14,7 +14,7 @@ pub struct Perm {
 }
 
 // An operation with its operands.
-pub enum Op {
+enum Op {
     Load,
     Store(bool),
     Swap(bool),

@@ -16,7 +16,7 @@ pub struct Perm {
 }
 
 // An operation with its operands.
-pub enum Op {
+enum Op {
     Load,
     Store(Count),
     Swap(Count),

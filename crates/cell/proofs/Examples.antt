@@ -6,4 +6,4 @@ use Rattle.cell.specs.Examples.{SourceExamples}
 
 pub source-examples : SourceExamples
 unfolding permits after
-source-examples = (refl, refl, refl, refl, refl, refl, refl, refl, refl, refl, refl, refl, refl, refl, refl)
+source-examples = (refl, refl, refl, refl, refl, refl, refl, refl, refl, refl, refl, refl, refl, refl, refl, refl, refl)

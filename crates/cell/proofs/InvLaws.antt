@@ -1,10 +1,9 @@
 -- The laws of an InvCell. The heart is `after-is`: after any calls the cell holds the last value accepted. The predicate is never
 -- opened: all goes by the test of what it permits. Assumes nothing.
 use Prim.Native.Nat.{ℕ}
-use mathlib.Core.Bool.{Bool, true, false}
+use mathlib.Core.Bool.{Bool, true, false, cond}
 use mathlib.Core.Path.{_≡_, refl}
 use mathlib.Core.List.{List, [], _∷_, _++_}
-use Rattle.atomic.specs.Pick.{pick}
 use Rattle.cell.specs.Access.{keeps, answerOf}
 use Rattle.cell.specs.Pred.{permits}
 use Rattle.cell.specs.Inv.{holding, withoutValue}
@@ -22,8 +21,8 @@ pub new-exact : NewExact
 new-exact p v = (λ e. rw e, λ e. rw e)
 
 numbered : (b : Bool) (w v : ℕ) →
-    (answerOf (pick b (record { leaves = w; answers = Value v }) (keeps v (Refused NotPermitted)) .answers) ≡ pick b 0 25)
-    × (answerOf (withoutValue (pick b (record { leaves = w; answers = Value v }) (keeps v (Refused NotPermitted)) .answers)) ≡ pick b 0 25)
+    (answerOf (cond b (record { leaves = w; answers = Value v }) (keeps v (Refused NotPermitted)) .answers) ≡ cond b 0 25)
+    × (answerOf (withoutValue (cond b (record { leaves = w; answers = Value v }) (keeps v (Refused NotPermitted)) .answers)) ≡ cond b 0 25)
 numbered true w v = (refl, refl)
 numbered false w v = (refl, refl)
 
@@ -35,27 +34,27 @@ pub bad-makes-none : BadMakesNone
 bad-makes-none p v bad = rw (bad-permits-none p v bad)
 
 -- what `new` has made
-pub made : (p : Pred) (v : ℕ) (c : InvCell) (b : Bool) → pick b (Cell (holding p v)) (NotMade NotPermitted) ≡ Cell c → (c ≡ holding p v) × (b ≡ true)
+pub made : (p : Pred) (v : ℕ) (c : InvCell) (b : Bool) → cond b (Cell (holding p v)) (NotMade NotPermitted) ≡ Cell c → (c ≡ holding p v) × (b ≡ true)
 made p v c true e = (cc, refl)
 made p v c false e = (cc, cc)
 
-leaves : (b : Bool) (w v : ℕ) (said kept : Answer) → pick b (record { leaves = w; answers = said }) (keeps v kept) .leaves ≡ pick b w v
+leaves : (b : Bool) (w v : ℕ) (said kept : Answer) → cond b (record { leaves = w; answers = said }) (keeps v kept) .leaves ≡ cond b w v
 leaves true w v said kept = refl
 leaves false w v said kept = refl
 
-pub called : (p : Pred) (v : ℕ) (k : Call) → call (holding p v) k .cell ≡ holding p (pick (permits p (brings k)) (brings k) v)
+pub called : (p : Pred) (v : ℕ) (k : Call) → call (holding p v) k .cell ≡ holding p (cond (permits p (brings k)) (brings k) v)
 called p v (sets w) = rw (leaves (permits p w) w v (Value v) (Refused NotPermitted))
 called p v (replaces w) = rw (leaves (permits p w) w v (Value v) (Refused NotPermitted))
 
-last-pick : (b : Bool) (w v : ℕ) (ws : List ℕ) → last (pick b w v) ws ≡ last v (pick b (w ∷ ws) ws)
+last-cond : (b : Bool) (w v : ℕ) (ws : List ℕ) → last (cond b w v) ws ≡ last v (cond b (w ∷ ws) ws)
 unfolding last
-last-pick true w v ws = refl
-last-pick false w v ws = refl
+last-cond true w v ws = refl
+last-cond false w v ws = refl
 
 after-is : (p : Pred) (v : ℕ) (ks : List Call) → after (holding p v) ks ≡ holding p (last v (accepted p ks))
 unfolding after accepted last
 after-is p v [] = refl
-after-is p v (k ∷ ks) = rw (called p v k, after-is p (pick (permits p (brings k)) (brings k) v) ks, last-pick (permits p (brings k)) (brings k) v (accepted p ks))
+after-is p v (k ∷ ks) = rw (called p v k, after-is p (cond (permits p (brings k)) (brings k) v) ks, last-cond (permits p (brings k)) (brings k) v (accepted p ks))
 
 accepted-skip : (p : Pred) (ks : List Call) (k : Call) (later : List Call) → permits p (brings k) ≡ false → accepted p (ks ++ (k ∷ later)) ≡ accepted p (ks ++ later)
 unfolding accepted
@@ -66,10 +65,23 @@ refuses : (p : Pred) (v : ℕ) (k : Call) → permits p (brings k) ≡ false →
 refuses p v (sets w) e = rw e
 refuses p v (replaces w) e = rw e
 
-as-last : (p : Pred) (v : ℕ) (calls : List Call) → AsLastAccepted p v (holding p v) calls
-as-last p v calls =
+-- what is accepted is permitted, and so is the last of it
+last-allowed : (p : Pred) (v : ℕ) (ks : List Call) → permits p v ≡ true → permits p (last v (accepted p ks)) ≡ true
+unfolding accepted last
+last-allowed p v [] ok = ok
+last-allowed p v (k ∷ ks) ok = by-test (permits p (brings k)) refl (last-allowed p (brings k) ks) (last-allowed p v ks ok)
+  where
+    by-test : (b : Bool) → permits p (brings k) ≡ b → (permits p (brings k) ≡ true → permits p (last (brings k) (accepted p ks)) ≡ true)
+        → permits p (last v (accepted p ks)) ≡ true → permits p (last v (cond b (brings k ∷ accepted p ks) (accepted p ks))) ≡ true
+    by-test true e taken left = taken e
+    by-test false e taken left = left
+
+as-last : (p : Pred) (v : ℕ) (calls : List Call) → permits p v ≡ true → AsLastAccepted p v (holding p v) calls
+as-last p v calls ok =
     record {
       gets = rw (after-is p v calls);
+      keeps-predicate = rw (after-is p v calls);
+      allowed = last-allowed p v calls ok;
       moves-out = rw (after-is p v calls);
       set-stores = λ w e. rw (after-is p v calls, e);
       replace-returns = λ w e. rw (after-is p v calls, e);
@@ -78,4 +90,4 @@ as-last p v calls =
     }
 
 pub holds-last-accepted : HoldsLastAccepted
-holds-last-accepted p v c e calls = rw (made p v c (permits p v) e .0) (as-last p v calls)
+holds-last-accepted p v c e calls = rw (made p v c (permits p v) e .0) (as-last p v calls (made p v c (permits p v) e .1))

@@ -1,8 +1,7 @@
 -- The definitions of Inv keep the source's contract. Assumes nothing.
 use Prim.Native.Nat.{ℕ}
-use mathlib.Core.Bool.{Bool, true, false}
+use mathlib.Core.Bool.{Bool, true, false, cond}
 use mathlib.Core.Path.{_≡_, refl}
-use Rattle.atomic.specs.Pick.{pick}
 use Rattle.cell.specs.Pred.{permits}
 use Rattle.cell.specs.Inv.{holding}
 use Rattle.cell.specs.Calls.{brings}
@@ -11,7 +10,7 @@ use Rattle.cell.specs.declared.pred.Pred.{Pred}
 use Rattle.cell.proofs.InvLaws.{made, called}
 
 -- the value that is left, where the test of v was b
-left-permitted : (p : Pred) (v was : ℕ) (b : Bool) → permits p v ≡ b → permits p was ≡ true → permits p (pick b v was) ≡ true
+left-permitted : (p : Pred) (v was : ℕ) (b : Bool) → permits p v ≡ b → permits p was ≡ true → permits p (cond b v was) ≡ true
 left-permitted p v was true e h = e
 left-permitted p v was false e h = h
 

@@ -1,9 +1,9 @@
 -- The laws of the value cell: by the test of the identities, by what is in the cell and by the operation. Assumes nothing.
 use Prim.Native.Nat.{ℕ}
-use mathlib.Core.Bool.{Bool, true, false}
+use mathlib.Core.Bool.{Bool, true, false, cond}
 use mathlib.Core.Path.{_≡_, refl}
 use lib.Dec.{eqb}
-use Rattle.atomic.specs.Pick.{pick}
+use package.borrow.Author.Tests.{eq-eqb, ne-eqb}
 use Rattle.cell.specs.Access.{answerOf}
 use Rattle.cell.specs.Value.{isFull, put, take, borrow, owned, asks}
 use Rattle.cell.specs.ValueLaws.{OwnIsDone, ForeignFirst, NumberedByTable, RefusedLeavesAll, BorrowLeavesAll, PutThenTake}
@@ -15,15 +15,15 @@ use Rattle.cell.specs.declared.value.Op.{Op}
 use Rattle.cell.specs.declared.value.Op.the-variants.{Put, Take, Borrow}
 
 pub own-is-done : OwnIsDone
-own-is-done c p op e = rw e
+own-is-done c p op e = rw (eq-eqb (c .0) (p .id .0) e)
 
 pub foreign-first : ForeignFirst
-foreign-first c p op e = rw e
+foreign-first c p op ne = rw (ne-eqb (c .0) (p .id .0) ne)
 
 numbered : (agree : Bool) (was : Content) (v : ℕ) →
-    (answerOf (owned agree (put v) was .answers) ≡ pick agree (pick (isFull was) 23 0) 21)
-    × (answerOf (owned agree take was .answers) ≡ pick agree (pick (isFull was) 0 24) 21)
-    × (answerOf (owned agree borrow was .answers) ≡ pick agree (pick (isFull was) 0 24) 21)
+    (answerOf (owned agree (put v) was .answers) ≡ cond agree (cond (isFull was) 23 0) 21)
+    × (answerOf (owned agree take was .answers) ≡ cond agree (cond (isFull was) 0 24) 21)
+    × (answerOf (owned agree borrow was .answers) ≡ cond agree (cond (isFull was) 0 24) 21)
 numbered true Empty v = (refl, refl, refl)
 numbered true (Full w) v = (refl, refl, refl)
 numbered false was v = (refl, refl, refl)
@@ -52,4 +52,6 @@ pub borrow-leaves-all : BorrowLeavesAll
 borrow-leaves-all c p = rw (borrow-leaves (eqb (c .0) (p .id .0)) (p .content))
 
 pub put-then-take : PutThenTake
-put-then-take c p v e f = (rw (e, f), rw (e, f), rw (e, f))
+put-then-take c p v e f =
+    let same = eq-eqb (c .0) (p .id .0) e in
+    (rw (same, f), rw (same, f), rw (same, f))

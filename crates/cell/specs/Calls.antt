@@ -1,8 +1,8 @@
 -- Any sequence of set and replace on an InvCell: what the definitions of specs/Inv make of it, and, with no cell in sight, which
 -- of its values the predicate lets through.
+use mathlib.Core.Bool.{cond}
 use Prim.Native.Nat.{ℕ}
 use mathlib.Core.List.{List, [], _∷_}
-use Rattle.atomic.specs.Pick.{pick}
 use Rattle.cell.specs.Pred.{permits}
 use Rattle.cell.specs.Inv.{set, replace, onInv}
 use Rattle.cell.specs.declared.pred.Pred.{Pred}
@@ -30,7 +30,7 @@ after c (k ∷ ks) = after (call c k .cell) ks
 -- the values that p permits, in the order of the calls
 unfoldable pub accepted : Pred → List Call → List ℕ
 accepted p [] = []
-accepted p (k ∷ ks) = pick (permits p (brings k)) (brings k ∷ accepted p ks) (accepted p ks)
+accepted p (k ∷ ks) = cond (permits p (brings k)) (brings k ∷ accepted p ks) (accepted p ks)
 
 -- the last of the values, or the first one given where there is none
 unfoldable pub last : ℕ → List ℕ → ℕ

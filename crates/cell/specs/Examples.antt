@@ -35,7 +35,9 @@ SourceExamples =
     -- example2: a cell for even numbers and one for odd ones
     × (new 20 (Parity 0) ≡ Cell (even 20))
     × (new 23 (Parity 1) ≡ Cell (odd 23))
+    × (get (even 20) ≡ 20)
     × (get (even 20) % 2 ≡ 0)
+    × (get (odd 23) ≡ 23)
     × (get (odd 23) % 2 ≡ 1)
     × (new 23 (Parity 0) ≡ NotMade NotPermitted)
     × (new 20 (Parity 1) ≡ NotMade NotPermitted)

@@ -1,7 +1,7 @@
 -- What each operation of an InvCell leaves and answers, and the same in the types of the code. The value is permitted in every
 -- InvCell that `new` makes (specs/InvLaws); of any other, these definitions hold all the same.
+use mathlib.Core.Bool.{cond}
 use Prim.Native.Nat.{ℕ}
-use Rattle.atomic.specs.Pick.{pick}
 use Rattle.cell.specs.Access.{Access, keeps}
 use Rattle.cell.specs.Pred.{permits}
 use Rattle.cell.specs.declared.Refusal.the-variants.{NotPermitted}
@@ -17,11 +17,11 @@ abbrev pub holding : Pred → ℕ → InvCell
 holding p v = record { pred = p; value = v }
 
 abbrev pub new : ℕ → Pred → Made
-new v p = pick (permits p v) (Cell (holding p v)) (NotMade NotPermitted)
+new v p = cond (permits p v) (Cell (holding p v)) (NotMade NotPermitted)
 
 -- p is the cell's predicate, and `was` the value in it
 abbrev pub replace : ℕ → Pred → ℕ → Access ℕ
-replace v p was = pick (permits p v) (record { leaves = v; answers = Value was }) (keeps was (Refused NotPermitted))
+replace v p was = cond (permits p v) (record { leaves = v; answers = Value was }) (keeps was (Refused NotPermitted))
 
 abbrev pub withoutValue : Answer → Answer
 withoutValue (Value v) = Stored

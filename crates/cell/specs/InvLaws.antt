@@ -1,10 +1,9 @@
 -- What an InvCell promises over any sequence of calls after `new`. Of the same calls the source promises an allowed value
 -- (Published), which any cell that hands back some other allowed value meets too.
 use Prim.Native.Nat.{ℕ}
-use mathlib.Core.Bool.{true, false}
+use mathlib.Core.Bool.{true, false, cond}
 use mathlib.Core.Path.{_≡_}
 use mathlib.Core.List.{List, _∷_, _++_}
-use Rattle.atomic.specs.Pick.{pick}
 use Rattle.cell.specs.Access.{answerOf}
 use Rattle.cell.specs.Pred.{permits, good}
 use Rattle.cell.specs.Inv.{holding, new, get, intoInner}
@@ -24,11 +23,14 @@ NewExact =
 
 -- the number of each answer, on any InvCell
 abbrev pub NumberedByPredicate : Type 0
-NumberedByPredicate = (c : InvCell) (k : Call) → answerOf (call c k .answer) ≡ pick (permits (c .pred) (brings k)) 0 25
+NumberedByPredicate = (c : InvCell) (k : Call) → answerOf (call c k .answer) ≡ cond (permits (c .pred) (brings k)) 0 25
 
 -- after the calls, on a cell c made with the predicate p and the value v
 pub record AsLastAccepted (p : Pred) (v : ℕ) (c : InvCell) (calls : List Call) : Type 0 where
   pub gets : get (after c calls) ≡ last v (accepted p calls)
+  pub keeps-predicate : after c calls .pred ≡ p
+  -- the source's invariant, at the value that it is
+  pub allowed : permits p (last v (accepted p calls)) ≡ true
   pub moves-out : intoInner (after c calls) ≡ last v (accepted p calls)
   pub set-stores : (w : ℕ) → permits p w ≡ true → call (after c calls) (sets w) .answer ≡ Stored
   -- the value accepted before

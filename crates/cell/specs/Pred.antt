@@ -1,9 +1,8 @@
 -- The predicates: which values each kind permits, which parameters are good, and the kinds by number. Whatever stands above cites
 -- the laws of PredLaws and opens no definition.
 use Prim.Native.Nat.{ℕ, _%_}
-use mathlib.Core.Bool.{Bool, true, _||_}
+use mathlib.Core.Bool.{Bool, true, _||_, cond}
 use lib.Dec.{eqb, leb}
-use Rattle.atomic.specs.Pick.{pick}
 use Rattle.cell.specs.declared.pred.Pred.{Pred}
 use Rattle.cell.specs.declared.pred.Pred.the-variants.{Any, Either, Parity}
 use Rattle.cell.specs.declared.pred.Named.{Named}
@@ -21,6 +20,6 @@ good (Parity a) = leb a 1
 
 unfoldable pub ofKind : ℕ → ℕ → ℕ → Named
 ofKind kind a b =
-    pick (eqb kind 0) (Known Any)
-    (pick (eqb kind 1) (Known (Either a b))
-    (pick (eqb kind 2) (Known (Parity a)) Unknown))
+    cond (eqb kind 0) (Known Any)
+    (cond (eqb kind 1) (Known (Either a b))
+    (cond (eqb kind 2) (Known (Parity a)) Unknown))

@@ -1,8 +1,7 @@
 -- What each operation of the value cell leaves and answers, by what is in the cell, and the same in the types of the code.
 use Prim.Native.Nat.{ℕ}
-use mathlib.Core.Bool.{Bool, true, false}
+use mathlib.Core.Bool.{Bool, true, false, cond}
 use lib.Dec.{eqb}
-use Rattle.atomic.specs.Pick.{pick}
 use Rattle.cell.specs.Access.{Access, keeps}
 use Rattle.atomic.specs.declared.CellId.{CellId}
 use Rattle.cell.specs.declared.Refusal.the-variants.{Foreign, IsFull, IsEmpty}
@@ -37,7 +36,7 @@ borrow (Full was) = keeps (Full was) (Value was)
 
 -- the operation, once the identities are known to agree
 abbrev pub owned : Bool → (Content → Access Content) → Content → Access Content
-owned agree operation was = pick agree (operation was) (keeps was (Refused Foreign))
+owned agree operation was = cond agree (operation was) (keeps was (Refused Foreign))
 
 -- the permission keeps its identity
 abbrev pub did : Perm → Access Content → Did

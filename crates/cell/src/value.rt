@@ -20,7 +20,7 @@ pub struct Perm {
 }
 
 // An operation with its operand.
-pub enum Op {
+enum Op {
     Put(u64),
     Take,
     Borrow,

@@ -1,15 +1,15 @@
 -- The token machine starts in its invariants and keeps them, has its two properties, and pays what its notation owes.
 -- Assumes nothing.
-use Prim.Native.Nat.{ℕ, zero, suc, _+_, _-_, _≤_, _<_}
+use Prim.Native.Nat.{ℕ, zero, suc, _+_, _-_, _≤_}
 use mathlib.Core.Bool.{Bool, true, false, cond, true≢false, false≢true}
 use mathlib.Core.Logic.{_⊎_, inl, inr, ⊎-elim}
 use mathlib.Core.Path.{_≡_, refl, sym, _∙_, ap, subst}
 use native.Mathlib.Omega.{arith}
 use lib.Dec.{eqb}
-use borrow.Author.Tests.{eqb-true, eqb-false, eq-eqb}
+use borrow.Author.Tests.{eqb-true, eq-eqb}
 use Rattle.toks.specs.Multiset.{Multiset, adding, removing}
-use Rattle.toks.specs.Toks.{Storage, empty, holds, stored, Toks, initializeFull, Transition, acquireReadStart, acquireReadEnd, acquireReadAbandon, acquireExcStart, acquireExcEnd, releaseExc, releaseShared}
-use Rattle.toks.specs.Invariants.{one, Holds, Starts, Keeps, ReadGuard, ReadMatch, Owed, Pays}
+use Rattle.toks.specs.Toks.{Storage, empty, holds, stored, Toks, Transition}
+use Rattle.toks.specs.Invariants.{one, Holds, Starts, Keeps, ReadGuard, ReadMatch, Pays}
 
 -- what is stored is not empty
 holds≢empty : (x : ℕ) → holds x ≡ empty → ⊥

@@ -2,7 +2,7 @@
 use Prim.Native.Nat.{ℕ, _+_, _≤_}
 use mathlib.Core.Bool.{Bool, true, false, cond}
 use mathlib.Core.Path.{_≡_}
-use Rattle.toks.specs.Toks.{Storage, empty, holds, stored, Toks, initializeFull, Transition}
+use Rattle.toks.specs.Toks.{empty, holds, stored, Toks, initializeFull, Transition}
 
 -- 1 for what is there or true, 0 otherwise
 abbrev pub one : Bool → ℕ

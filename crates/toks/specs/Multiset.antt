@@ -1,6 +1,6 @@
 -- A multiset of values is how many it has of each. Two with the same counts are equal, as the source's are.
 use Prim.Native.Nat.{ℕ, _+_, _-_}
-use mathlib.Core.Bool.{Bool, true, false, cond}
+use mathlib.Core.Bool.{cond}
 use lib.Dec.{eqb}
 
 abbrev pub Multiset : Type 0

@@ -29,42 +29,114 @@ pub record Toks (K : Type 0) : Type 0 where
 module _ {K : Type 0} where
   abbrev pub initializeFull : K → ℕ → Toks K
   initializeFull k t =
-      record { k = k; flagExc = false; flagRc = 0; storage = holds t; pendingWriter = false; writer = false; pendingReader = 0; reader = none }
+      record {
+        k = k;
+        flagExc = false;
+        flagRc = 0;
+        storage = holds t;
+        pendingWriter = false;
+        writer = false;
+        pendingReader = 0;
+        reader = none;
+      }
 
   -- increment the counter, obtain a pending reader
   abbrev pub acquireReadStart : Toks K → Toks K
   acquireReadStart s =
-      record { k = s .k; flagExc = s .flagExc; flagRc = s .flagRc + 1; storage = s .storage; pendingWriter = s .pendingWriter; writer = s .writer; pendingReader = s .pendingReader + 1; reader = s .reader }
+      record {
+        flagRc = s .flagRc + 1;
+        pendingReader = s .pendingReader + 1;
+        k = s .k;
+        flagExc = s .flagExc;
+        storage = s .storage;
+        pendingWriter = s .pendingWriter;
+        writer = s .writer;
+        reader = s .reader;
+      }
 
   -- exchange the pending reader for a reader of what is stored
   abbrev pub acquireReadEnd : Toks K → Toks K
   acquireReadEnd s =
-      record { k = s .k; flagExc = s .flagExc; flagRc = s .flagRc; storage = s .storage; pendingWriter = s .pendingWriter; writer = s .writer; pendingReader = s .pendingReader - 1; reader = adding (stored (s .storage)) (s .reader) }
+      record {
+        pendingReader = s .pendingReader - 1;
+        reader = adding (stored (s .storage)) (s .reader);
+        k = s .k;
+        flagExc = s .flagExc;
+        flagRc = s .flagRc;
+        storage = s .storage;
+        pendingWriter = s .pendingWriter;
+        writer = s .writer;
+      }
 
   -- decrement the counter, abandon the attempt
   abbrev pub acquireReadAbandon : Toks K → Toks K
   acquireReadAbandon s =
-      record { k = s .k; flagExc = s .flagExc; flagRc = s .flagRc - 1; storage = s .storage; pendingWriter = s .pendingWriter; writer = s .writer; pendingReader = s .pendingReader - 1; reader = s .reader }
+      record {
+        flagRc = s .flagRc - 1;
+        pendingReader = s .pendingReader - 1;
+        k = s .k;
+        flagExc = s .flagExc;
+        storage = s .storage;
+        pendingWriter = s .pendingWriter;
+        writer = s .writer;
+        reader = s .reader;
+      }
 
   -- set the flag, obtain a pending writer
   abbrev pub acquireExcStart : Toks K → Toks K
   acquireExcStart s =
-      record { k = s .k; flagExc = true; flagRc = s .flagRc; storage = s .storage; pendingWriter = true; writer = s .writer; pendingReader = s .pendingReader; reader = s .reader }
+      record {
+        flagExc = true;
+        pendingWriter = true;
+        k = s .k;
+        flagRc = s .flagRc;
+        storage = s .storage;
+        writer = s .writer;
+        pendingReader = s .pendingReader;
+        reader = s .reader;
+      }
 
   -- exchange the pending writer for a writer, withdraw what is stored
   abbrev pub acquireExcEnd : Toks K → Toks K
   acquireExcEnd s =
-      record { k = s .k; flagExc = s .flagExc; flagRc = s .flagRc; storage = empty; pendingWriter = false; writer = true; pendingReader = s .pendingReader; reader = s .reader }
+      record {
+        storage = empty;
+        pendingWriter = false;
+        writer = true;
+        k = s .k;
+        flagExc = s .flagExc;
+        flagRc = s .flagRc;
+        pendingReader = s .pendingReader;
+        reader = s .reader;
+      }
 
   -- clear the flag, return the writer, deposit x
   abbrev pub releaseExc : ℕ → Toks K → Toks K
   releaseExc x s =
-      record { k = s .k; flagExc = false; flagRc = s .flagRc; storage = holds x; pendingWriter = s .pendingWriter; writer = false; pendingReader = s .pendingReader; reader = s .reader }
+      record {
+        flagExc = false;
+        storage = holds x;
+        writer = false;
+        k = s .k;
+        flagRc = s .flagRc;
+        pendingWriter = s .pendingWriter;
+        pendingReader = s .pendingReader;
+        reader = s .reader;
+      }
 
   -- decrement the counter, return a reader of x
   abbrev pub releaseShared : ℕ → Toks K → Toks K
   releaseShared x s =
-      record { k = s .k; flagExc = s .flagExc; flagRc = s .flagRc - 1; storage = s .storage; pendingWriter = s .pendingWriter; writer = s .writer; pendingReader = s .pendingReader; reader = removing x (s .reader) }
+      record {
+        flagRc = s .flagRc - 1;
+        reader = removing x (s .reader);
+        k = s .k;
+        flagExc = s .flagExc;
+        storage = s .storage;
+        pendingWriter = s .pendingWriter;
+        writer = s .writer;
+        pendingReader = s .pendingReader;
+      }
 
 -- The machine's moves: each transition with what the source requires of the state before, the tokens that it removes among it.
 pub data Transition {K : Type 0} (inv : K → ℕ → Type 0) (s : Toks K) : Toks K → Type 0 where

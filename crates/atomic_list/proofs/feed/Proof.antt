@@ -1,4 +1,4 @@
--- `atomic_list::feed` meets its contract. The loop needs no invariant. The measure is what is left of the chunk. Assumes nothing.
+-- `feed` is safe and ends. The loop needs no invariant. The measure is what is left of the chunk. Assumes nothing.
 use Prim.Native.Nat.{_-_}
 use borrow.Author.Needs.{needs}
 use lib.ListN.{length}

@@ -1,4 +1,4 @@
--- `number` meets its contract. The loop needs no invariant: the code tests each index. The measure is what is left of the text.
+-- `number` is safe and ends. The loop needs no invariant: the code tests each index. The measure is what is left of the text.
 -- Assumes nothing.
 use Prim.Native.Nat.{_-_}
 use borrow.Author.Needs.{needs}
