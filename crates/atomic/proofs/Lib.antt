@@ -1,3 +1,4 @@
+pub mod Permission
 pub mod Bits
 pub mod Wrap
 pub mod Fits

@@ -7,24 +7,23 @@ use native.Mathlib.Nat.{mod-eq-of-lt}
 use native.Mathlib.Omega.{arith}
 use lib.Dec.{eqb, ltb, leb}
 use borrow.Author.Tests.{lt-ltb, le-ltb, le-leb, lt-leb, eq-eqb, ne-eqb, eqb-true, eqb-false}
-use Rattle.atomic.specs.Access.{Access, Done, refused, make, fetches, compareExchange, answerOf}
+use Rattle.atomic.specs.Permission.{Done}
+use Rattle.atomic.specs.Access.{Reply, Access, refused, fetches, compareExchange, answerOf}
 use Rattle.atomic.specs.Published as published
 use Rattle.atomic.specs.declared.Refusal.the-variants.{Foreign}
+use Rattle.atomic.proofs.Permission as permission
 use Rattle.atomic.proofs.Bits.{word-below, bit-of-word, same-bits}
 use Rattle.atomic.proofs.Wrap.{once-past}
 
 pub keeps-identity : published.KeepsIdentity
-keeps-identity A c p access = either-way (eqb (c .0) (p .id .0))
-  where
-    either-way : (t : Bool) → cond t (make p access) (record { perm = p; answer = refused Foreign }) .perm .id ≡ p .id
-    either-way true = refl
-    either-way false = refl
+keeps-identity A c p access = permission.keeps A _ _ c p access
 
 pub identity-asked : published.IdentityAsked
 identity-asked A c p access =
-    (λ e. simp (eq-eqb _ _ e) (refl, refl, sym e), λ ne. simp (ne-eqb _ _ ne))
+    let it = permission.compares A _ (refused Foreign) c p access in
+    (λ e. rw (it .0 e) (refl, refl, sym e), it .1)
 
-answered : {A : Type 0} (t : Bool) (x y : Done A) → answerOf (cond t x y .answer) ≡ cond t (answerOf (x .answer)) (answerOf (y .answer))
+answered : {A : Type 0} (t : Bool) (x y : Done A (Reply A)) → answerOf (cond t x y .answer) ≡ cond t (answerOf (x .answer)) (answerOf (y .answer))
 answered true x y = refl
 answered false x y = refl
 
@@ -42,7 +41,8 @@ numbered = (
   λ w n was. replied (ltb (was + n) (2 ^ w)) _ _,
   λ n was. replied (leb n was) _ _,
   λ A same v to was. (refl, refl, refl, replied (same was v) _ _ ∙ never (same was v), replied (same was v) _ _ ∙ never (same was v)),
-  λ w n was. (refl, refl, refl),
+  λ w n was. (refl, refl, refl, refl, refl, refl, refl),
+  λ f n was. refl,
 )
 
 pub load : published.Load

@@ -2,10 +2,11 @@
 -- operation, for every width. `was` is the value before the access, and w the width in bits.
 use Prim.Native.Nat.{ℕ, _+_, _-_, _%_, _^_}
 use mathlib.Core.Bool.{Bool, cond}
-use lib.Dec.{ltb, leb, eqb}
+use lib.Dec.{ltb, leb}
 use Rattle.atomic.specs.declared.CellId.{CellId}
 use Rattle.atomic.specs.declared.Refusal.{Refusal}
 use Rattle.atomic.specs.declared.Refusal.the-variants.{Foreign, Outside}
+use Rattle.atomic.specs.Permission.{Left, Permission, Done, keeps, compared}
 use Rattle.atomic.specs.Bits.{bitwise, both, either, differ, notBoth}
 
 -- A is what the atomic holds: numbers, or true and false
@@ -31,17 +32,12 @@ answerOf (failed v) = 0
 answerOf nothing = 0
 answerOf (refused why) = numberOf why
 
-pub record Access (A : Type 0) : Type 0 where
-  pub leaves : A
-  pub answers : Reply A
+abbrev pub Access : Type 0 → Type 0
+Access A = Left A (Reply A)
 
 module _ {A : Type 0} where
   abbrev pub fetches : A → A → Access A
   fetches was now = record { leaves = now; answers = old was }
-
-  -- what is not done leaves the value as it was
-  abbrev pub keeps : A → Reply A → Access A
-  keeps was why = record { leaves = was; answers = why }
 
   abbrev pub load : A → Access A
   load was = fetches was was
@@ -92,21 +88,6 @@ fetchMax n was = fetches was (cond (ltb n was) was n)
 abbrev pub fetchBool : (Bool → Bool → Bool) → Bool → Bool → Access Bool
 fetchBool f n was = fetches was (f was n)
 
--- A permission holds the identity of its atomic and the value.
-pub record Permission (A : Type 0) : Type 0 where
-  pub id : CellId
-  pub value : A
-
--- the permission as it is left, and the answer
-pub record Done (A : Type 0) : Type 0 where
-  pub perm : Permission A
-  pub answer : Reply A
-
-module _ {A : Type 0} where
-  -- the access is made: the permission keeps its identity
-  abbrev pub make : Permission A → (A → Access A) → Done A
-  make p access = record { perm = record { id = p .id; value = access (p .value) .leaves }; answer = access (p .value) .answers }
-
-  -- an access of the atomic c with the permission p, which is not made where their identities differ
-  abbrev pub on : CellId → Permission A → (A → Access A) → Done A
-  on c p access = cond (eqb (c .0) (p .id .0)) (make p access) (record { perm = p; answer = refused Foreign })
+-- an access of the atomic c with the permission p
+abbrev pub on : {A : Type 0} → CellId → Permission A → (A → Access A) → Done A (Reply A)
+on c p access = compared (refused Foreign) c p access

@@ -1,7 +1,8 @@
 -- The marked case of the atomics.
 use mathlib.Core.Path.{_≡_}
 use Rattle.atomic.specs.declared.Refusal.the-variants.{Outside}
-use Rattle.atomic.specs.Access.{refused, fetches, keeps, fetchAdd, fetchAddWrapping, numberOf}
+use Rattle.atomic.specs.Access.{refused, fetches, fetchAdd, fetchAddWrapping, numberOf}
+use Rattle.atomic.specs.Permission.{keeps}
 
 -- 8 bits: 255 plus 1 wraps to 0, and fetch_add there is 22 and leaves 255
 abbrev pub CaseJ : Type 0

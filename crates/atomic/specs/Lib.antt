@@ -1,5 +1,6 @@
 pub mod Bits
 pub mod Operators
+pub mod Permission
 pub mod Access
 pub mod Published
 pub mod Cases

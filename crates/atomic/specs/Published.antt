@@ -7,8 +7,9 @@ use mathlib.Core.Path.{_≡_}
 use lib.Dec.{eqb, ltb, leb}
 use Rattle.atomic.specs.declared.CellId.{CellId}
 use Rattle.atomic.specs.declared.Refusal.the-variants.{Foreign, Outside}
+use Rattle.atomic.specs.Permission.{Permission, keeps}
 use Rattle.atomic.specs.Bits.{bit, both, either, differ, notBoth}
-use Rattle.atomic.specs.Access.{old, failed, nothing, refused, Access, fetches, keeps, load, store, swap, compareExchange, compareExchangeWeak, fetchAdd, fetchSub, fetchAddWrapping, fetchSubWrapping, fetchAnd, fetchOr, fetchXor, fetchNand, fetchMax, fetchBool, Permission, on, answerOf}
+use Rattle.atomic.specs.Access.{old, failed, nothing, refused, Access, fetches, load, store, swap, compareExchange, compareExchangeWeak, fetchAdd, fetchSub, fetchAddWrapping, fetchSubWrapping, fetchAnd, fetchOr, fetchXor, fetchNand, fetchMax, fetchBool, on, answerOf}
 
 -- final(perm).patomic == old(perm).patomic, of every access
 abbrev pub KeepsIdentity : Type 1
@@ -30,7 +31,8 @@ Numbered =
     × ((w n was : ℕ) → answerOf (fetchAdd w n was .answers) ≡ cond (ltb (was + n) (2 ^ w)) 0 22)
     × ((n was : ℕ) → answerOf (fetchSub n was .answers) ≡ cond (leb n was) 0 22)
     × ((A : Type 0) (same : A → A → Bool) (v to was : A) → (answerOf (load was .answers) ≡ 0) × (answerOf (store v was .answers) ≡ 0) × (answerOf (swap v was .answers) ≡ 0) × (answerOf (compareExchange same v to was .answers) ≡ 0) × (answerOf (compareExchangeWeak same v to was .answers) ≡ 0))
-    × ((w n was : ℕ) → (answerOf (fetchAddWrapping w n was .answers) ≡ 0) × (answerOf (fetchSubWrapping w n was .answers) ≡ 0) × (answerOf (fetchMax n was .answers) ≡ 0))
+    × ((w n was : ℕ) → (answerOf (fetchAddWrapping w n was .answers) ≡ 0) × (answerOf (fetchSubWrapping w n was .answers) ≡ 0) × (answerOf (fetchMax n was .answers) ≡ 0) × (answerOf (fetchAnd w n was .answers) ≡ 0) × (answerOf (fetchOr w n was .answers) ≡ 0) × (answerOf (fetchXor w n was .answers) ≡ 0) × (answerOf (fetchNand w n was .answers) ≡ 0))
+    × ((f : Bool → Bool → Bool) (n was : Bool) → answerOf (fetchBool f n was .answers) ≡ 0)
 
 -- equal(perm.value, ret)
 abbrev pub Load : Type 1

@@ -1,7 +1,8 @@
 -- The accesses in the types of the bool atomic.
 use mathlib.Core.Bool.{Bool, Bool·beq}
 use Rattle.atomic.specs.Bits.{both, either, differ}
-use Rattle.atomic.specs.Access.{Reply, old, failed, nothing, refused, Access, Permission, Done, make, on, load, store, swap, compareExchange, fetchBool}
+use Rattle.atomic.specs.Access.{Reply, old, failed, nothing, refused, Access, on, load, store, swap, compareExchange, fetchBool}
+use Rattle.atomic.specs.Permission.{Permission, Done, make}
 use Rattle.atomic.specs.declared.CellId.{CellId}
 use Rattle.atomic_bool.specs.declared.Perm.{Perm}
 use Rattle.atomic_bool.specs.declared.Did.{Did}
@@ -19,7 +20,7 @@ answer (refused why) = Refused why
 abbrev pub held : Perm → Permission Bool
 held p = record { id = p .id; value = p .value }
 
-abbrev pub did : Done Bool → Did
+abbrev pub did : Done Bool (Reply Bool) → Did
 did d = record { perm = record { id = d .perm .id; value = d .perm .value }; answer = answer (d .answer) }
 
 -- the access with the permission p of the atomic that it is for

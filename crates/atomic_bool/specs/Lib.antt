@@ -1,1 +1,2 @@
 pub mod Bool
+pub mod Laws

@@ -1,1 +1,2 @@
 pub mod U64
+pub mod Laws

@@ -1,1 +1,2 @@
 pub mod U8
+pub mod Laws

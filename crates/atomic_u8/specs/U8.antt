@@ -1,7 +1,8 @@
 -- The accesses in the types of the 8-bit atomic.
 use Prim.Native.Nat.{ℕ}
 use lib.Dec.{eqb}
-use Rattle.atomic.specs.Access.{Reply, old, failed, nothing, refused, Access, Permission, Done, make, on, load, store, swap, compareExchange, fetchAdd, fetchSub, fetchAddWrapping, fetchSubWrapping, fetchAnd, fetchOr, fetchXor, fetchNand, fetchMax}
+use Rattle.atomic.specs.Access.{Reply, old, failed, nothing, refused, Access, on, load, store, swap, compareExchange, fetchAdd, fetchSub, fetchAddWrapping, fetchSubWrapping, fetchAnd, fetchOr, fetchXor, fetchNand, fetchMax}
+use Rattle.atomic.specs.Permission.{Permission, Done, make}
 use Rattle.atomic.specs.declared.CellId.{CellId}
 use Rattle.atomic_u8.specs.declared.Count.{Count}
 use Rattle.atomic_u8.specs.declared.Perm.{Perm}
@@ -23,7 +24,7 @@ answer (refused why) = Refused why
 abbrev pub held : Perm → Permission ℕ
 held p = record { id = p .id; value = p .value .0 }
 
-abbrev pub did : Done ℕ → Did
+abbrev pub did : Done ℕ (Reply ℕ) → Did
 did d = record { perm = record { id = d .perm .id; value = count (d .perm .value) }; answer = answer (d .answer) }
 
 -- the access with the permission p of the atomic that it is for

@@ -4,7 +4,8 @@ use Prim.Native.Nat.{ℕ}
 use mathlib.Core.Bool.{Bool, true, false, cond}
 use mathlib.Core.Path.{_≡_, refl}
 use mathlib.Core.List.{List, [], _∷_, _++_}
-use Rattle.cell.specs.Access.{keeps, answerOf}
+use Rattle.atomic.specs.Permission.{keeps}
+use Rattle.cell.specs.Access.{answerOf}
 use Rattle.cell.specs.Pred.{permits}
 use Rattle.cell.specs.Inv.{holding, withoutValue}
 use Rattle.cell.specs.Calls.{Call, sets, replaces, brings, call, after, accepted, last}

@@ -1,18 +1,14 @@
 -- What an operation leaves and answers, and an answer in numbers.
 use Prim.Native.Nat.{ℕ}
+use Rattle.atomic.specs.Permission.{Left}
 use Rattle.cell.specs.declared.Refusal.{Refusal}
 use Rattle.cell.specs.declared.Refusal.the-variants.{Foreign, IsFull, IsEmpty, NotPermitted}
 use Rattle.cell.specs.declared.Answer.{Answer}
 use Rattle.cell.specs.declared.Answer.the-variants.{Value, Stored, Refused}
 
 -- A is what the cell holds: of a value cell its content, of an InvCell a number
-pub record Access (A : Type 0) : Type 0 where
-  pub leaves : A
-  pub answers : Answer
-
--- what is not done, or only looks, leaves all as it was
-abbrev pub keeps : {A : Type 0} → A → Answer → Access A
-keeps was answer = record { leaves = was; answers = answer }
+abbrev pub Access : Type 0 → Type 0
+Access A = Left A Answer
 
 -- the numbers of the table of refusals: the identities of cell and permission differ; a put into a full cell; a take or a borrow
 -- from an empty one; the value is not permitted

@@ -2,7 +2,8 @@
 -- InvCell that `new` makes (specs/InvLaws); of any other, these definitions hold all the same.
 use mathlib.Core.Bool.{cond}
 use Prim.Native.Nat.{ℕ}
-use Rattle.cell.specs.Access.{Access, keeps}
+use Rattle.atomic.specs.Permission.{keeps}
+use Rattle.cell.specs.Access.{Access}
 use Rattle.cell.specs.Pred.{permits}
 use Rattle.cell.specs.declared.Refusal.the-variants.{NotPermitted}
 use Rattle.cell.specs.declared.Answer.{Answer}

@@ -1,10 +1,11 @@
 -- What each operation of the value cell leaves and answers, by what is in the cell, and the same in the types of the code.
 use Prim.Native.Nat.{ℕ}
-use mathlib.Core.Bool.{Bool, true, false, cond}
-use lib.Dec.{eqb}
-use Rattle.cell.specs.Access.{Access, keeps}
+use mathlib.Core.Bool.{Bool, true, false}
+use Rattle.atomic.specs.Permission.{Permission, Done, keeps, compared}
+use Rattle.cell.specs.Access.{Access}
 use Rattle.atomic.specs.declared.CellId.{CellId}
 use Rattle.cell.specs.declared.Refusal.the-variants.{Foreign, IsFull, IsEmpty}
+use Rattle.cell.specs.declared.Answer.{Answer}
 use Rattle.cell.specs.declared.Answer.the-variants.{Value, Stored, Refused}
 use Rattle.cell.specs.declared.value.Content.{Content}
 use Rattle.cell.specs.declared.value.Content.the-variants.{Empty, Full}
@@ -34,17 +35,19 @@ abbrev pub borrow : Content → Access Content
 borrow Empty = keeps Empty (Refused IsEmpty)
 borrow (Full was) = keeps (Full was) (Value was)
 
--- the operation, once the identities are known to agree
-abbrev pub owned : Bool → (Content → Access Content) → Content → Access Content
-owned agree operation was = cond agree (operation was) (keeps was (Refused Foreign))
+abbrev pub held : Perm → Permission Content
+held p = record { id = p .id; value = p .content }
 
--- the permission keeps its identity
+abbrev pub told : Done Content Answer → Did
+told d = record { perm = record { id = d .perm .id; content = d .perm .value }; answer = d .answer }
+
+-- the operation, done: the permission keeps its identity
 abbrev pub did : Perm → Access Content → Did
 did p a = record { perm = record { id = p .id; content = a .leaves }; answer = a .answers }
 
 -- an operation on the cell c with the permission p
 abbrev pub onCell : CellId → Perm → (Content → Access Content) → Did
-onCell c p operation = did p (owned (eqb (c .0) (p .id .0)) operation (p .content))
+onCell c p operation = told (compared (Refused Foreign) c (held p) operation)
 
 abbrev pub asks : Op → Content → Access Content
 asks (Put v) = put v

@@ -1,7 +1,7 @@
 // The value cell: a cell for one number, with a permission that holds what is in it. The identity is compared first, in one
 // place, `access`; each operation then makes its one access.
 ghost use mathlib.Core.Path.{_≡_};
-ghost use Rattle.cell.specs.Access.{keeps};
+ghost use Rattle.atomic.specs.Permission.{keeps};
 ghost use Rattle.cell.specs.Value.{put, take, borrow, kept, did, onCell, asks};
 use super::Answer;
 use super::Refusal;
