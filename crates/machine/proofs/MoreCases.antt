@@ -7,7 +7,7 @@ use Rattle.machine.specs.Lists.{total}
 use Rattle.machine.specs.Run.{run}
 use Rattle.machine.specs.Tidy.{costFrom, cost}
 use Rattle.machine.specs.Drain.{until, sweep, drain}
-use Rattle.machine.specs.MoreCases.{FailedInto, DroppedRead, DroppedWrite, FiveReaders, DrainOfL, SeenTwo, TakenFive, MoreCases}
+use Rattle.machine.specs.MoreCases.{FailedInto, DroppedRead, DroppedWrite, FiveReaders, DrainOfL, SeenTwo, TakenFive, Bounds, MoreCases}
 
 failed-into : FailedInto
 unfolding run step answer entryRefusal lowest act fits sum permits total
@@ -37,5 +37,9 @@ taken-five : TakenFive
 unfolding run step answer entryRefusal lowest act fits sum permits total
 taken-five = (refl, refl, refl, refl)
 
+bounds : Bounds
+unfolding sum total cost costFrom
+bounds = (refl, refl, refl, refl)
+
 pub more-cases : MoreCases
-more-cases = (failed-into, dropped-read, dropped-write, five-readers, drain-of-l, seen-two, taken-five)
+more-cases = (failed-into, dropped-read, dropped-write, five-readers, drain-of-l, seen-two, taken-five, bounds)

@@ -93,7 +93,7 @@ entry-13 = (refl, refl)
 
 entry-14 : Entry14
 unfolding runRefusal runLent lowest permits good total find every sound sum run wordsOf step answer entryRefusal fits
-entry-14 = ((refl, refl, refl, refl), (refl, refl, refl, refl), (refl, refl, refl, refl, refl))
+entry-14 = ((refl, refl, refl, refl), (refl, refl, refl, refl), (refl, refl, refl, refl, refl), refl)
 
 entry-15 : Entry15
 unfolding runRefusal runLent lowest permits good total find every sound sum run wordsOf step answer entryRefusal fits

@@ -1,21 +1,22 @@
 -- More cases beside A to L: into_inner after a dropped write, drops, many readers, the order of a drain, an exchange above 1, the
--- value taken. Locks, records and rows are written out.
+-- value taken, the bound of a drain. Locks, records and rows are written out.
 use Prim.Native.Nat.{ℕ, _^_, _-_}
 use mathlib.Core.Path.{_≡_}
 use mathlib.Core.Bool.{true, false}
-use mathlib.Core.List.{List, [], _∷_}
+use mathlib.Core.List.{List, [], _∷_, map}
 use lib.ListN.{replicate}
 use Rattle.cell.specs.declared.pred.Pred.the-variants.{Any, Either}
 use Rattle.cell.specs.declared.value.Content.the-variants.{Empty, Full}
-use Rattle.machine.specs.Numbers.{lockOf, recOf, idle, alone}
+use Rattle.machine.specs.Numbers.{lockOf, recOf, idle, alone, two}
 use Rattle.machine.specs.Lists.{Lent, lists, scriptsOf}
 use Rattle.machine.specs.Run.{run}
+use Rattle.machine.specs.Tidy.{bound}
 use Rattle.machine.specs.Drain.{drain}
 use Rattle.machine.specs.Cases.{starving, lockL, recsL}
 use Rattle.machine.specs.declared.Lock.{Lock}
 use Rattle.machine.specs.declared.Row.{Row}
 use Rattle.machine.specs.declared.Mover.the-variants.{Nobody, By}
-use Rattle.machine.specs.declared.Place.the-variants.{Idle, ReadTry, ReadCheck, Reading, Writing}
+use Rattle.machine.specs.declared.Place.the-variants.{Idle, ReadTry, ReadCheck, Reading, Writing, WritePut}
 
 abbrev row : ℕ → ℕ → ℕ → ℕ → ℕ → ℕ → Row
 row thread access answer got exc rc = record { thread = thread; access = access; answer = answer; got = got; exc = exc; rc = rc }
@@ -112,5 +113,13 @@ TakenFive =
     × (b .lock ≡ lockOf (Either 5 13) 3 true 0 Empty 0 0 Nobody false)
     × (b .recs ≡ recOf 2 Idle 0 0 ∷ recOf 1 Writing 0 5 ∷ [])
 
+-- ---- g: the bound of a drain: three for the thread, and the cost of each operation from the script place on, one under way in full
+abbrev pub Bounds : Type 0
+Bounds =
+    (map (λ o. bound (scriptsOf (alone (o ∷ []))) (idle ∷ [])) (1 ∷ 2 ∷ 3 ∷ 4 ∷ 5 ∷ []) ≡ 6 ∷ 4 ∷ 4 ∷ 6 ∷ 5 ∷ [])
+    × (bound (scriptsOf (alone (1 ∷ 2 ∷ 3 ∷ []))) (recOf 1 Reading 0 0 ∷ []) ≡ 5)
+    × (bound (scriptsOf (alone (4 ∷ 5 ∷ []))) (recOf 1 WritePut 0 0 ∷ []) ≡ 5)
+    × (bound (scriptsOf (two [] (1 ∷ 3 ∷ []))) (idle ∷ recOf 2 Idle 0 0 ∷ []) ≡ 6)
+
 abbrev pub MoreCases : Type 0
-MoreCases = FailedInto × DroppedRead × DroppedWrite × FiveReaders × DrainOfL × SeenTwo × TakenFive
+MoreCases = FailedInto × DroppedRead × DroppedWrite × FiveReaders × DrainOfL × SeenTwo × TakenFive × Bounds

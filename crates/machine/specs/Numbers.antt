@@ -300,6 +300,8 @@ Entry14 =
     (AtIdle 2 × AtIdle 3 × AtIdle 5 × AtIdle 6)
     × (AtReading 1 × AtReading 4 × AtReading 5 × AtReading 7)
     × (AtWriting 1 × AtWriting 2 × AtWriting 3 × AtWriting 4 × AtWriting 7)
+    -- nor does 7 fit Reading where its thread is the mover already
+    × RowSays (alone (7 ∷ [])) (lockOf Any 3 false 1 (Full 5) 0 0 (By 0) false) (reading ∷ []) 0 14 0 1
 
 -- 15: another record, before or behind, is not Idle
 abbrev pub Entry15 : Type 0

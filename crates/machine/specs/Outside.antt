@@ -106,7 +106,7 @@ Clause3 =
 abbrev BesideWait : Place → Type 0
 BesideWait p = says (two (4 ∷ []) (home p .op ∷ [])) (lock false 0 (home p .cell)) (at WriteWait ∷ at p ∷ []) ≡ 10
 
--- the same with a dropped write; a finished lock with one; and the sum does not wrap, in clause 7 neither
+-- the same with a dropped write; a finished lock with one; and no sum wraps, neither this one nor, in the last line, that of clause 7
 abbrev pub Clause4 : Type 0
 Clause4 =
     BesideWait WriteWait
@@ -166,7 +166,7 @@ WrongInCell = (p : Place) → p ≢ Writing → says (scriptAt p) (lock (home p 
 abbrev pub Clause8 : Type 0
 Clause8 = WrongInCell × (says (scriptAt Writing) (lockAt Writing) (recOf 0 Writing 0 7 ∷ []) ≡ 10)
 
--- something is seen, or something is taken
+-- something is seen elsewhere than at ReadTry, or taken elsewhere than at Writing
 abbrev pub Seen : Type 0
 Seen = (p : Place) → p ≢ ReadTry → says (scriptAt p) (lockAt p) (recOf 0 p 1 (home p .taken) ∷ []) ≡ 10
 
@@ -213,12 +213,13 @@ Clause12 =
     × (byOperation Writing ≡ 0 ∷ 0 ∷ 0 ∷ 0 ∷ 0 ∷ 0 ∷ 0 ∷ [])
     × (byOperation WritePut ≡ 10 ∷ 10 ∷ 10 ∷ 10 ∷ 0 ∷ 10 ∷ 10 ∷ [])
 
--- the mover is no thread; its script is at its end; its operation is another; another record is not Idle
+-- the mover is Idle, at its 7, and the other record is not Idle
 abbrev pub OtherBusy : Type 0
 OtherBusy =
     (p : Place) → p ≢ Idle
     → says (two (7 ∷ []) (home p .op ∷ [])) (moved (home p .exc) (home p .rc) (home p .cell) (By 0)) (at Idle ∷ at p ∷ []) ≡ 10
 
+-- the mover is no thread; its script is at its end; its operation is another; another record is not Idle; both may be Idle
 abbrev pub Clause13 : Type 0
 Clause13 =
     (says (alone (7 ∷ [])) (moved false 0 (Full 5) (By 1)) (at Idle ∷ []) ≡ 10)
@@ -258,7 +259,7 @@ SoundFromOutside =
     × (says (alone []) (lock false 1 (Full 5)) (at Reading ∷ []) ≡ 0)
     × (says (alone (5 ∷ [])) (lock true 0 Empty) (at Writing ∷ []) ≡ 0)
     × (says (alone []) (lock true 0 Empty) (at Writing ∷ []) ≡ 0)
-    -- 5 is being put, and 13 is in the cell; 13 was taken
+    -- a release of 0 is under way, and 13 is in the cell; 13 was taken
     × (says (alone (5 ∷ [])) (lock true 0 (Full 13)) (at WritePut ∷ []) ≡ 0)
     × (says (alone (5 ∷ [])) (lock true 0 Empty) (recOf 0 Writing 0 13 ∷ []) ≡ 0)
     -- a mover that is Reading, and one that is Writing, with 7 next

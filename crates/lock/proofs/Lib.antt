@@ -1,0 +1,13 @@
+pub mod Told
+pub mod Room
+pub mod Turn
+pub mod Piece
+pub mod Stepped
+pub mod Refusing
+pub mod Running
+pub mod ByValue
+pub mod Tail
+pub mod Begins
+pub mod Costs
+pub mod Sweeps
+pub mod Draining
