@@ -18,7 +18,7 @@ use Rattle.machine.specs.declared.Mover.the-variants.{Nobody, By}
 use Rattle.machine.proofs.Sums.{sum-set}
 use Rattle.judge.specs.Counts.{unvalued}
 use Rattle.judge.specs.Records.{alone, moverAt}
-use Rattle.judge.proofs.Tests.{same-test}
+use Rattle.words.proofs.Tests.{same-test}
 
 -- none of the others is busy exactly if no more are busy than the record itself
 others-none : (l : List Rec) (t : ℕ) → t < length l → eqb (others l t) 0 ≡ eqb (busy l) (busyOf (here l t))

@@ -11,7 +11,7 @@ use Rattle.machine.specs.declared.Lock.{Lock}
 use Rattle.machine.specs.declared.Place.{Place}
 use Rattle.machine.specs.declared.Place.the-variants.{Idle, ReadTry, ReadCheck, ReadBack, Reading, WriteWait, WriteTake, Writing, WritePut}
 use Rattle.judge.specs.Counts.{testReaders, testWriters, testValue, testEnding}
-use Rattle.judge.proofs.Tests.{swapped}
+use Rattle.words.proofs.Tests.{swapped}
 
 -- ---- inside operation 7
 -- before the value is taken, as a test and as a factor

@@ -18,7 +18,7 @@ use Rattle.machine.proofs.Sums.{sum-le, sum-const}
 use Rattle.judge.specs.declared.sound.Counted.{Counted}
 use Rattle.judge.specs.Counts.{Few, asTally, unvalued, weighed}
 use Rattle.judge.proofs.Clauses.{takes, took, took-there, took-elsewhere}
-use Rattle.judge.proofs.Loops.{Gathered, sum-on, sum-over}
+use Rattle.words.proofs.Loops.{Gathered, sum-on, sum-over}
 
 -- ---- what a record weighs, 1 at most
 abbrev at : Place → ℕ → Rec → ℕ

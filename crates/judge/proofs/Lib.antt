@@ -1,6 +1,3 @@
-pub mod Tests
 pub mod Clauses
-pub mod Loops
 pub mod Gather
 pub mod Alone
-pub mod Rests

@@ -3,20 +3,19 @@ ghost use mathlib.Core.Path.{_≡_};
 ghost use lib.ListN.{take};
 ghost use Rattle.judge.specs.Counts.{unvalued};
 ghost use Rattle.judge.specs.Records.{alone, moverAt};
-use super::INTO_INNER;
-use super::MOST_THREADS;
-use super::number;
 use super::script;
 use machine::Mover;
 use machine::Place;
 use machine::Rec;
+use words::names::INTO_INNER;
+use words::names::MOST_THREADS;
 
 // The record r, whose operation is o, is at operation 7, and of so many records that are not Idle it is the only one.
 fn is_alone(len: u64, o: u64, r: Rec, busy: u64) -> bool
     ensures { λ x. ⌜ x ≡ alone len o r busy ⌝ }
 {
     let place = r.place;
-    let own = 1 - number::bit(number::is(place, Place::Idle));
+    let own = 1 - words::bit(words::is(place, Place::Idle));
     (r.at < len) & ((o == INTO_INNER) & (busy == own))
 }
 
@@ -27,7 +26,7 @@ pub fn holds(lens: &[u64], ops: &[u64], by: Mover, recs: [Rec; 16], count: u64, 
     match by {
         Mover::Nobody => true,
         Mover::By(t) => {
-            if number::smaller(count, MOST_THREADS) <= t {
+            if words::smaller(count, MOST_THREADS) <= t {
                 return false;
             }
             let r = recs[t as usize];

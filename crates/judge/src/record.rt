@@ -3,17 +3,16 @@ ghost use mathlib.Core.Path.{_≡_};
 ghost use lib.ListN.{take};
 ghost use Rattle.machine.specs.Sound.{every, inRange, hasIts, keepsSeen, keepsTaken};
 ghost use Rattle.judge.specs.Records.{keepsAt, soundAt};
-use super::ACQUIRE_READ;
-use super::ACQUIRE_WRITE;
-use super::INTO_INNER;
-use super::MOST_THREADS;
-use super::RELEASE_WRITE;
-use super::number;
 use super::script;
 use cell::pred;
 use cell::pred::Pred;
 use machine::Place;
 use machine::Rec;
+use words::names::ACQUIRE_READ;
+use words::names::ACQUIRE_WRITE;
+use words::names::INTO_INNER;
+use words::names::MOST_THREADS;
+use words::names::RELEASE_WRITE;
 
 // The script place is below the script's length inside an operation, and elsewhere not past it.
 fn in_range(len: u64, r: Rec) -> bool
@@ -56,7 +55,7 @@ fn keeps_seen(top: u64, r: Rec) -> bool
 {
     let place = r.place;
     let seen = r.seen;
-    let tries = number::is(place, Place::ReadTry);
+    let tries = words::is(place, Place::ReadTry);
     (tries & (seen.0 < top)) | (!tries & (seen.0 == 0))
 }
 
@@ -65,7 +64,7 @@ fn keeps_taken(pred: Pred, r: Rec) -> bool
     ensures { λ x. ⌜ x ≡ keepsTaken pred r (r .place) ⌝ }
 {
     let place = r.place;
-    let writes = number::is(place, Place::Writing);
+    let writes = words::is(place, Place::Writing);
     (writes & pred::permits(pred, r.taken)) | (!writes & (r.taken == 0))
 }
 
@@ -88,7 +87,7 @@ pub fn all_keep(
 ) -> bool
     ensures { λ x. ⌜ x ≡ every (soundAt (now (lens .entry)) (now (ops .entry)) pred top) 0 (take count recs) ⌝ }
 {
-    let n = number::smaller(count, MOST_THREADS);
+    let n = words::smaller(count, MOST_THREADS);
     let mut k = 0;
     while k < n {
         let r = recs[k as usize];

@@ -6,10 +6,7 @@ ghost use Rattle.machine.specs.Words.{bit, is};
 ghost use Rattle.machine.specs.Lists.{lists, scriptsOf};
 ghost use Rattle.machine.specs.Sound.{isInto, tally, testCounts, sound};
 ghost use Rattle.judge.specs.Counts.{Few, unvalued, weighed, asTally, testReaders, testWriters, testValue, testEnding};
-use super::INTO_INNER;
-use super::MOST_THREADS;
 use super::mover;
-use super::number;
 use super::record;
 use super::script;
 use cell::pred;
@@ -17,6 +14,8 @@ use cell::value;
 use machine::Lock;
 use machine::Place;
 use machine::Rec;
+use words::names::INTO_INNER;
+use words::names::MOST_THREADS;
 
 // How many records stand at each place, are not Idle, or are inside operation 7.
 struct Counted {
@@ -57,7 +56,7 @@ fn and_at(n: u64, place: Place, q: Place) -> u64
     requires { ⌜ n ≤ 16 ⌝ }
     ensures { λ x. ⌜ x ≡ n + bit (is place q) ⌝ }
 {
-    n + number::bit(number::is(place, q))
+    n + words::bit(words::is(place, q))
 }
 
 // n, and one more inside operation 7.
@@ -65,8 +64,8 @@ fn and_inside(n: u64, place: Place, o: u64) -> u64
     requires { ⌜ n ≤ 16 ⌝ }
     ensures { λ x. ⌜ x ≡ n + (bit (is place Place.WriteWait) + bit (is place Place.WriteTake)) * isInto o ⌝ }
 {
-    if number::is(place, Place::WriteWait) | number::is(place, Place::WriteTake) {
-        n + number::bit(o == INTO_INNER)
+    if words::is(place, Place::WriteWait) | words::is(place, Place::WriteTake) {
+        n + words::bit(o == INTO_INNER)
     } else {
         n
     }
@@ -86,7 +85,7 @@ fn weigh(n: Counted, r: Rec, o: u64) -> Counted
         take: and_at(n.take, place, Place::WriteTake),
         writing: and_at(n.writing, place, Place::Writing),
         put: and_at(n.put, place, Place::WritePut),
-        busy: n.busy + (1 - number::bit(number::is(place, Place::Idle))),
+        busy: n.busy + (1 - words::bit(words::is(place, Place::Idle))),
         inside: and_inside(n.inside, place, o),
     }
 }
@@ -107,7 +106,7 @@ fn gather(lens: &[u64], ops: &[u64], recs: [Rec; 16], count: u64) -> Counted
         busy: 0,
         inside: 0,
     };
-    let n = number::smaller(count, MOST_THREADS);
+    let n = words::smaller(count, MOST_THREADS);
     let mut k = 0;
     while k < n {
         let r = recs[k as usize];
@@ -126,7 +125,7 @@ fn readers_hold(lock: Lock, n: Counted) -> bool
     let rc = lock.rc;
     let top = lock.top;
     let reads = lock.reads;
-    (rc.0 <= top.0) & number::is_sum(rc.0, n.check + n.back + n.reading, reads.0)
+    (rc.0 <= top.0) & words::is_sum(rc.0, n.check + n.back + n.reading, reads.0)
 }
 
 // The flag is up for one writer, those past access 8 are alone, and the cell is empty for one that has taken the value away.
@@ -137,11 +136,11 @@ fn writers_hold(lock: Lock, n: Counted) -> bool
     let reads = lock.reads;
     let writes = lock.writes;
     let cell = lock.cell;
-    let gone = n.writing + number::bit(lock.finished);
+    let gone = n.writing + words::bit(lock.finished);
     let past = n.take + n.put + gone;
-    let flag = number::is_sum(number::bit(lock.exc), n.wait + past, writes.0);
-    let none = number::is_sum(0, past, writes.0) | number::is_sum(0, n.reading, reads.0);
-    let one = number::is_sum(1, number::full(cell) + gone, writes.0);
+    let flag = words::is_sum(words::bit(lock.exc), n.wait + past, writes.0);
+    let none = words::is_sum(0, past, writes.0) | words::is_sum(0, n.reading, reads.0);
+    let one = words::is_sum(1, words::full(cell) + gone, writes.0);
     flag & (none & one)
 }
 
@@ -151,7 +150,7 @@ fn value_holds(lock: Lock) -> bool
 {
     let cell = lock.cell;
     let pred = lock.pred;
-    number::full(cell) <= number::bit(pred::permits(pred, value::kept(cell)))
+    words::full(cell) <= words::bit(pred::permits(pred, value::kept(cell)))
 }
 
 // Nobody but the mover is inside operation 7, and a finished lock has everyone Idle and no mover.
@@ -159,7 +158,7 @@ fn ending_holds(lock: Lock, n: Counted) -> bool
     ensures { λ x. ⌜ x ≡ testEnding lock (asTally n) ⌝ }
 {
     let mover = lock.mover;
-    let moving = number::moving(mover);
+    let moving = words::moving(mover);
     (n.inside <= moving) & (!lock.finished | ((n.busy == 0) & (moving == 0)))
 }
 

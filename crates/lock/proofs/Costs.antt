@@ -9,7 +9,7 @@ use lib.ListN.{length}
 use Rattle.machine.specs.Names.{acquireRead, acquireWrite, releaseWrite}
 use Rattle.machine.specs.Tidy.{price, costFrom, cost}
 use Rattle.scripts.proofs.Starts.{capped}
-use Rattle.judge.specs.Rests.{wordsAt}
+use Rattle.tidy.specs.Rests.{wordsAt}
 
 pub price-most : (o : ℕ) → price o ≤ 3
 price-most o = go (eqb o acquireRead || eqb o acquireWrite) (eqb o releaseWrite)

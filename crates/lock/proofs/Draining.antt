@@ -64,7 +64,7 @@ module _ (s : Lent) (count : ℕ) (L : Lock) (l : List Rec) where
       untidy-refused e = rw (then, e)
 
 -- ---- the three parts
-sweep-length : (stop : ℕ → Rec → Bool) (S : Scripts) (f k c : ℕ) (L : Lock) (l : List Rec) → length (sweep stop S f k c L l .recs) ≡ length l
+pub sweep-length : (stop : ℕ → Rec → Bool) (S : Scripts) (f k c : ℕ) (L : Lock) (l : List Rec) → length (sweep stop S f k c L l .recs) ≡ length l
 unfolding sweep
 sweep-length stop S f k zero L l = refl
 sweep-length stop S f k (suc c) L l =

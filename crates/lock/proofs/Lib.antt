@@ -1,4 +1,3 @@
-pub mod Told
 pub mod Room
 pub mod Turn
 pub mod Piece

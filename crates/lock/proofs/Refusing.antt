@@ -1,5 +1,5 @@
 -- The refusal of a run: those of the lists first, then that of the state. And what a state has that is not refused.
-use Prim.Native.Nat.{ℕ, _<_, _≤_}
+use Prim.Native.Nat.{ℕ, _+_, _<_, _≤_, min}
 use mathlib.Core.Path.{_≡_, refl, ap, sym, _∙_}
 use mathlib.Core.Bool.{Bool, true, false, _||_, not, cond, true≢false, or-true, and-eq-true-iff}
 use mathlib.Core.List.{List, [], _∷_, _++_}
@@ -9,7 +9,8 @@ use lib.ListN.{length, getD, take, take-append-drop}
 use package.borrow.Author.Tests.{ltb-false, leb-true, leb-false, eqb-true, lt-ltb, le-ltb, ne-eqb, not-false}
 use Rattle.machine.specs.Names.{unsound, mostThreads, longestScript}
 use Rattle.machine.specs.Refusals.{Check, gives, lowest}
-use Rattle.machine.specs.Lists.{Lent, scriptsOf, longThread, listChecks, beside}
+use Rattle.machine.specs.Lists.{Lent, start, scriptsOf, longThread, listChecks, beside}
+use Rattle.scripts.proofs.Starts.{start-later, start-last}
 use Rattle.machine.specs.Sound.{sound}
 use Rattle.machine.specs.Run.{entries}
 use Rattle.machine.specs.declared.Lock.{Lock}
@@ -124,10 +125,16 @@ none-refused s count L recs none =
       record {
         threads = ltb-false mostThreads (length (s .lens)) (state .0);
         short = none-long s (ltb-false (longThread (s .lens)) (length (s .lens)) (p .0));
+        whole = eqb-true _ _ o;
         values = eqb-true _ _ v ∙ sym (eqb-true _ _ o);
         sound = rw (← same) (sound-tested (scriptsOf s) L (take count recs) .0 (state .1));
       },
     )
+
+-- a script lies inside the list of operations, from its start, which may be cut at the list's end
+pub inside : (s : Lent) (L : Lock) (recs : List Rec) (i from : ℕ) → Ready s L recs → i < length (s .lens) → from ≡ min (start (s .lens) i) (length (s .ops))
+    → from + scriptsOf s .len i ≤ length (s .ops)
+inside s L recs i from p h cut = omega (arith, p .whole, start-later (s .lens) i (length (s .lens)) h, start-last (s .lens))
 
 pub no-number : (s : Lent) (k : ℕ) (why : Refusal) → why ≡ beside s k → why .number ≡ 0 → k ≡ 0
 no-number s k why is none = sym (number-beside s k) ∙ ap (λ (r : Refusal). r .number) (sym is) ∙ none

@@ -168,15 +168,14 @@ module _ (s : Lent) (L₀ : Lock) (recs : List Rec) (schedule : List ℕ) (n : �
             omega (arith, g .counted, sum-le (λ j r. busyOf r) (λ j r. 1) (λ j r. omega arith) 0 l, sum-const 1 0 l, size, p .threads),
           )
 
-      pub enters : (e : Entered) (i op v from : ℕ) → i < length (s .lens) → from ≡ min (start (s .lens) i) (length (s .ops))
-          → op ≡ getD (s .ops) (from + here rs i .at) 0 → v ≡ getD (s .vals) (from + here rs i .at) 0
-          → e ≡ enteredOf L (here rs i) i (scriptsOf s .len i) b op v
+      pub enters : (e : Entered) (i from : ℕ) → i < length (s .lens) → from ≡ min (start (s .lens) i) (length (s .ops))
+          → e ≡ enteredOf L (here rs i) i (scriptsOf s .len i) b (getD (s .ops) (from + here rs i .at) 0) (getD (s .vals) (from + here rs i .at) 0)
           → Stepped (scriptsOf s) (length (s .lens)) L rs i (e .lock) (set rs i (e .rec)) (e .busy) (e .row)
-      enters e i op v from h cut o w made =
+      enters e i from h cut made =
           let at = here rs i .at in
-          let o′ : op ≡ scriptsOf s .op i at = o ∙ read-word (s .ops) from (start (s .lens) i) (length (s .ops)) at cut refl in
-          let w′ : v ≡ scriptsOf s .val i at = w ∙ read-word (s .vals) from (start (s .lens) i) (length (s .ops)) at cut (p .values) in
-          stepped (scriptsOf s) (length (s .lens)) L rs i b size (g .counted) e h (rw (← o′, ← w′) made)
+          let o = read-word (s .ops) from (start (s .lens) i) (length (s .ops)) at cut refl in
+          let w = read-word (s .vals) from (start (s .lens) i) (length (s .ops)) at cut (p .values) in
+          stepped (scriptsOf s) (length (s .lens)) L rs i b size (g .counted) e h (rw (← o, ← w) made)
 
       pub enters-not : (i : ℕ) (row : Row) → length (s .lens) ≤ i → row ≡ rowOf i L noAccess noThread 0
           → Stepped (scriptsOf s) (length (s .lens)) L rs i L rs b row

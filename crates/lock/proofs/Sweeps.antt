@@ -5,7 +5,7 @@ use mathlib.Core.Bool.{Bool, true, false}
 use mathlib.Core.List.{List, [], _∷_, _++_}
 use native.Mathlib.Numerals.{add-one}
 use native.Mathlib.Omega.{arith}
-use lib.ListN.{length, take, drop, set, length-append, take-append-drop}
+use lib.ListN.{length, take, drop, set, getD, length-append, take-append-drop}
 use lib.Seq.{take-at, drop-at, length-take-le, length-front, set-append-left, getD-take}
 use Rattle.machine.specs.Words.{unbegun}
 use Rattle.machine.specs.Lists.{Lent, start, scriptsOf}
@@ -19,7 +19,6 @@ use Rattle.machine.proofs.Steps.{step-sound}
 use Rattle.machine.proofs.RunRule.{step-length}
 use Rattle.machine.proofs.Accesses.{others-stay}
 use Rattle.scripts.proofs.Starts.{capped}
-use Rattle.judge.specs.Rests.{wordsAt}
 use Rattle.lock.specs.Room.{Room}
 use Rattle.lock.specs.Entered.{enteredOf}
 use Rattle.lock.specs.declared.entered.Entered.{Entered}
@@ -80,11 +79,11 @@ module _ (s : Lent) (g : Going) (ready : UnderWay s g) where
     has-room more = rw (← rec-is) (room S (g .lock) l i (ready .state .sound) within (rw rec-is more) (ready .state .short i there) (ready .wide))
 
     -- what the code of the entry is given is what the definition reads
-    pub read-is : (o v : ℕ) → o ≡ wordsAt (s .ops) (min (start (s .lens) i) (length (s .ops))) (here (g .recs) i .at)
-        → v ≡ wordsAt (s .vals) (min (start (s .lens) i) (length (s .ops))) (here (g .recs) i .at)
-        → enteredOf (g .lock) (here (g .recs) i) i (S .len i) (g .busy) o v ≡ entered S (g .lock) l i
-    read-is o v e f =
-        rw (rec-is, e, f, capped (s .ops) (start (s .lens) i) (here (g .recs) i .at), ← (ready .state .values), capped (s .vals) (start (s .lens) i) (here (g .recs) i .at), ready .busy)
+    pub read-is : (from : ℕ) → from ≡ min (start (s .lens) i) (length (s .ops))
+        → enteredOf (g .lock) (here (g .recs) i) i (S .len i) (g .busy) (getD (s .ops) (from + here (g .recs) i .at) 0) (getD (s .vals) (from + here (g .recs) i .at) 0)
+        ≡ entered S (g .lock) l i
+    read-is from cut =
+        rw (rec-is, cut, capped (s .ops) (start (s .lens) i) (here (g .recs) i .at), ← (ready .state .values), capped (s .vals) (start (s .lens) i) (here (g .recs) i .at), ready .busy)
         refl
 
     -- what the code keeps of the entry is what the definition leaves
@@ -111,6 +110,7 @@ module _ (s : Lent) (g : Going) (ready : UnderWay s g) where
               record {
                 threads = ready .state .threads;
                 short = ready .state .short;
+                whole = ready .state .whole;
                 values = ready .state .values;
                 sound = rw front-is (step-sound S (g .lock) l i (ready .state .sound));
               };

@@ -25,6 +25,11 @@ pub going-on : (L : Lock) (r : Rec) (i n others o v : ℕ) → turnRefusal L r i
 unfolding turnRefusal lowest
 going-on L r i n others o v e = leb-false n (r .at) (missed (leb n (r .at)) scriptFinished _ (omega arith) e)
 
+-- a finished script is refused whatever the lists have after it
+pub finished : (L : Lock) (r : Rec) (i n others o v : ℕ) → n ≤ r .at → turnOf L r i n others o v ≡ No scriptFinished
+unfolding turnOf turnRefusal lowest
+finished L r i n others o v h = rw (le-leb n (r .at) h)
+
 module _ (S : Scripts) (L : Lock) (l : List Rec) (i : ℕ) where
   pub answer-turn : i < length l → answer S L l i ≡ turnOf L (here l i) i (S .len i) (others l i) (opOf S l i) (valOf S l i)
   unfolding answer entryRefusal lowest turnOf turnRefusal

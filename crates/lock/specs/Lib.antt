@@ -1,4 +1,3 @@
-pub mod Access
 pub mod ByValue
 pub mod Entered
 pub mod Room

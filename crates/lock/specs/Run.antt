@@ -4,7 +4,7 @@ use mathlib.Core.Path.{_≡_}
 use mathlib.Core.List.{List, _++_}
 use lib.ListN.{length, take, drop}
 use Rattle.machine.specs.Names.{mostThreads, longestScript, rowWords}
-use Rattle.machine.specs.Lists.{Lent, scriptsOf, beside}
+use Rattle.machine.specs.Lists.{Lent, total, scriptsOf, beside}
 use Rattle.machine.specs.Sound.{Sound}
 use Rattle.machine.specs.Run.{run, RunLeft, madeRun}
 use Rattle.machine.specs.declared.Lock.{Lock}
@@ -24,6 +24,7 @@ readyOf s L recs schedule n trace = madeRun (beside s 0) n trace (run (scriptsOf
 pub record Ready (s : Lent) (L : Lock) (recs : List Rec) : Type 0 where
   pub threads : length (s .lens) ≤ mostThreads
   pub short : (i : ℕ) → i < length (s .lens) → scriptsOf s .len i ≤ longestScript
+  pub whole : length (s .ops) ≡ total (s .lens)
   pub values : length (s .vals) ≡ length (s .ops)
   pub sound : Sound (scriptsOf s) L (take (length (s .lens)) recs)
 

@@ -5,24 +5,22 @@ ghost use lib.ListN.{length, take};
 ghost use Rattle.machine.specs.Lists.{lists, scriptsOf, beside};
 ghost use Rattle.machine.specs.Tidy.{price, cost, bound};
 ghost use Rattle.machine.specs.Drain.{until, sweep, drain};
-ghost use Rattle.judge.specs.Rests.{wordsAt};
+ghost use Rattle.tidy.specs.Rests.{wordsAt};
 ghost use Rattle.lock.specs.ByValue.{drainRefusalOf, drainOf};
 ghost use Rattle.lock.specs.Run.{Ready};
 ghost use Rattle.lock.specs.Drain.{stopsAt, stopOf, UnderWay, startOf, goingOf, drainedOf};
 use super::entered;
-use super::names::ACQUIRE_READ;
-use super::names::ACQUIRE_WRITE;
-use super::names::NONE;
-use super::names::RELEASE_WRITE;
-use super::names::UNTIDY;
 use super::refused;
 use super::run;
-use super::words;
-use judge::tidy;
 use machine::Lock;
 use machine::Place;
 use machine::Rec;
 use machine::Refusal;
+use words::names::ACQUIRE_READ;
+use words::names::ACQUIRE_WRITE;
+use words::names::NONE;
+use words::names::RELEASE_WRITE;
+use words::names::UNTIDY;
 
 // What a drain returns: the refusal, whose number is 0 for none; how many entries it made; the lock and the records as they are left.
 pub struct Drained {
@@ -174,9 +172,7 @@ fn until(
                 used,
             };
         }
-        let op = scripts::word_at(ops, start, rec.at);
-        let v = scripts::word_at(vals, start, rec.at);
-        let e = entered::enter(lock, rec, i as u64, len, busy, op, v);
+        let e = entered::enter_at(lock, rec, i as u64, len, busy, start, ops, vals);
         let after = e.lock;
         let rec = e.rec;
         lock = after;

@@ -2,20 +2,21 @@
 // has to count them.
 ghost use Prim.Native.Nat.{_+_, _-_, _<_, _≤_, _^_};
 ghost use mathlib.Core.Path.{_≡_};
+ghost use lib.ListN.{length, getD};
 ghost use Rattle.machine.specs.Words.{bit};
 ghost use Rattle.machine.specs.Step.{busyOf, rowOf};
 ghost use Rattle.lock.specs.Room.{Room};
 ghost use Rattle.lock.specs.Entered.{leftAlone, changed, enteredOf};
 use super::entry;
-use super::names::NO_ACCESS;
-use super::names::NONE;
-use super::words;
 use machine::Did;
 use machine::Lock;
 use machine::Out;
 use machine::Place;
 use machine::Rec;
 use machine::Row;
+use words::names::NO_ACCESS;
+use words::names::NONE;
+use words::names::SCRIPT_FINISHED;
 
 pub(crate) struct Entered {
     pub(crate) lock: Lock,
@@ -39,6 +40,32 @@ pub(crate) fn enter(lock: Lock, rec: Rec, i: u64, len: u64, busy: u64, op: u64, 
     }
 }
 
+// The same, with the operation and its value read from the lists: the thread's script starts at `start`. They are read only where the
+// script is not finished.
+pub(crate) fn enter_at(
+    lock: Lock,
+    rec: Rec,
+    i: u64,
+    len: u64,
+    busy: u64,
+    start: u64,
+    ops: &[u64],
+    vals: &[u64],
+) -> Entered
+    requires { ⌜ (rec .at < len → Room lock rec) ⌝ }
+    requires { ⌜ busyOf rec ≤ busy ⌝ }
+    requires { ⌜ busy ≤ 16 ⌝ }
+    requires { ⌜ start + len ≤ length (now ops) ⌝ }
+    requires { ⌜ length (now vals) ≡ length (now ops) ⌝ }
+    ensures { λ r. ⌜ r ≡ enteredOf lock rec i len busy (getD (now (ops .entry)) (start + rec .at) 0) (getD (now (vals .entry)) (start + rec .at) 0) ⌝ }
+{
+    if len <= rec.at {
+        return left_alone(lock, rec, i, busy, SCRIPT_FINISHED);
+    }
+    let at = (start + rec.at) as usize;
+    enter(lock, rec, i, len, busy, ops[at], vals[at])
+}
+
 // 1 for a record that is not Idle.
 pub(crate) fn busy_of(rec: Rec) -> u64
     ensures { λ r. ⌜ r ≡ busyOf rec ⌝ }
@@ -52,8 +79,8 @@ fn left_alone(lock: Lock, rec: Rec, i: u64, busy: u64, k: u64) -> Entered
     ensures { λ r. ⌜ r ≡ leftAlone lock rec i busy k ⌝ }
 {
     Entered {
-        lock,
-        rec,
+        lock: words::remade(lock),
+        rec: words::rec_remade(rec),
         busy,
         row: row_of(lock, i, NO_ACCESS, k, 0),
     }
@@ -66,8 +93,8 @@ fn changed(d: Did, i: u64, others: u64) -> Entered
     let lock = d.lock;
     let rec = d.rec;
     Entered {
-        lock,
-        rec,
+        lock: words::remade(lock),
+        rec: words::rec_remade(rec),
         busy: others + busy_of(rec),
         row: row_of(lock, i, d.access, NONE, d.got),
     }

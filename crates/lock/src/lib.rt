@@ -1,12 +1,9 @@
 // The lock as code: each function is proved equal to its definition in `machine`.
-mod access;
 pub mod drain;
 mod entered;
 mod entry;
-mod names;
 mod refused;
 pub mod run;
 pub mod setup;
 mod table;
 mod trace;
-mod words;

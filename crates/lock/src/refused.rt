@@ -6,13 +6,13 @@ ghost use lib.ListN.{take};
 ghost use Rattle.machine.specs.Names.{mostThreads};
 ghost use Rattle.machine.specs.Lists.{lists, beside};
 ghost use Rattle.lock.specs.ByValue.{runRefusalOf};
-use super::names::MOST_THREADS;
-use super::names::NONE;
-use super::names::UNSOUND;
 use judge::sound;
 use machine::Lock;
 use machine::Rec;
 use machine::Refusal;
+use words::names::MOST_THREADS;
+use words::names::NONE;
+use words::names::UNSOUND;
 
 // 5, 6 and 7 are the lists'. 10 is a thread count of 0 or above 16, or a state that is not sound.
 pub(crate) fn refused(

@@ -9,15 +9,15 @@ ghost use Rattle.machine.specs.Lists.{lists, start};
 ghost use Rattle.lock.specs.ByValue.{runOf};
 ghost use Rattle.lock.specs.Run.{ranOf, readyOf, Ready, restOf, restTrace};
 use super::entered;
-use super::names::NO_ACCESS;
-use super::names::NO_THREAD;
-use super::names::NONE;
 use super::refused;
 use super::trace;
 use super::trace::ROW;
 use machine::Lock;
 use machine::Rec;
 use machine::Refusal;
+use words::names::NO_ACCESS;
+use words::names::NO_THREAD;
+use words::names::NONE;
 
 // What a run returns: the refusal, whose number is 0 for none; n; the number of rows with answer 0; the lock and the records as they
 // are left.
@@ -131,9 +131,7 @@ fn run_ready(
         if t < count {
             let i = t as usize;
             let r = rs[i];
-            let op = scripts::word_at(ops, starts[i], r.at);
-            let v = scripts::word_at(vals, starts[i], r.at);
-            let e = entered::enter(l, r, t, lens[i], busy, op, v);
+            let e = entered::enter_at(l, r, t, lens[i], busy, starts[i], ops, vals);
             let after = e.lock;
             let rec = e.rec;
             l = after;

@@ -8,13 +8,6 @@ ghost use Rattle.machine.specs.Lists.{lists, beside};
 ghost use Rattle.machine.specs.Setup.{fresh, setupRefusal};
 ghost use Rattle.lock.specs.ByValue.{putBack};
 ghost use Rattle.lock.specs.Setup.{ownChecks, begunOf};
-use super::names::BAD_PREDICATE;
-use super::names::FIRST_VALUE;
-use super::names::MOST_THREADS;
-use super::names::NONE;
-use super::names::THREAD_COUNT;
-use super::names::TOP_IS_ZERO;
-use super::words;
 use atomic::Count;
 use cell::pred;
 use cell::pred::Pred;
@@ -22,6 +15,12 @@ use machine::Place;
 use machine::Rec;
 use machine::Refusal;
 use machine::Start;
+use words::names::BAD_PREDICATE;
+use words::names::FIRST_VALUE;
+use words::names::MOST_THREADS;
+use words::names::NONE;
+use words::names::THREAD_COUNT;
+use words::names::TOP_IS_ZERO;
 
 // What setup answers, and the records as it leaves them.
 pub struct Begun {

@@ -32,7 +32,7 @@ rows-length S L l (i ∷ more) = ap suc (rows-length S (step S L l i .lock) (ste
 
 module _ (s : Lent) (L : Lock) (l : List Rec) (schedule : List ℕ) (budget : ℕ) (trace : List ℕ) where
   -- what a run leaves that is not refused
-  made : runRefusal s L l ≡ 0
+  pub made : runRefusal s L l ≡ 0
       → let n = entries budget schedule trace in
       runLent s L l schedule budget trace ≡ madeRun (beside s 0) n trace (run (scriptsOf s) L l (take n schedule))
   unfolding runLent

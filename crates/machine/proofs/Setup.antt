@@ -14,7 +14,7 @@ use Rattle.machine.proofs.Refusals.{passed}
 use Rattle.machine.proofs.Runs.{setup-sound}
 
 -- the top is not 0, and the first value is permitted
-admits : (q : Pred) (m v : ℕ) (s : Lent) (records : ℕ) → setupRefusal q m v s records ≡ 0 → (1 ≤ m) × (permits q v ≡ true)
+pub admits : (q : Pred) (m v : ℕ) (s : Lent) (records : ℕ) → setupRefusal q m v s records ≡ 0 → (1 ≤ m) × (permits q v ≡ true)
 unfolding setupRefusal
 admits q m v s records none =
     let p = passed 0 (setupChecks q m v s records) (omega arith) none in

@@ -170,7 +170,7 @@ fn wrong_place(ops: &[u64], vals: &[u64], from: u64, len: u64) -> u64
 }
 
 // An unknown code, or a value other than 0 for an operation that takes none.
-fn is_wrong(o: u64, v: u64) -> bool
+pub fn is_wrong(o: u64, v: u64) -> bool
     ensures { λ r. ⌜ r ≡ wrong o v ⌝ }
 {
     if o == 0 {

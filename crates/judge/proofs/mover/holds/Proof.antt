@@ -4,7 +4,7 @@ use native.Mathlib.Omega.{arith}
 use lib.ListN.{length}
 use denote.Ref.{now}
 use Rattle.judge.specs.Counts.{unvalued}
-use Rattle.judge.proofs.Loops.{size}
+use Rattle.words.proofs.Loops.{size}
 use Rattle.judge.proofs.Alone.{mover-there, mover-missing}
 use borrow.Author.Needs.{needs}
 use Rattle.judge.proofs.mover.holds.Statement.{statement}

@@ -8,7 +8,7 @@ use denote.Ref.{now}
 use borrow.Author.Tests.{not-true, not-false}
 use Rattle.machine.specs.Step.{here}
 use Rattle.judge.specs.Records.{soundAt}
-use Rattle.judge.proofs.Loops.{size, Passed, pass-on, pass-not, pass-over}
+use Rattle.words.proofs.Loops.{size, Passed, pass-on, pass-not, pass-over}
 use borrow.Author.Needs.{needs}
 use Rattle.judge.proofs.record.all_keep.Statement.{statement}
 use Rattle.judge.proofs.record.all_keep.Tie as tie

@@ -5,7 +5,7 @@ use mathlib.Core.Path.{_≡_}
 use native.Mathlib.Omega.{arith}
 use lib.ListN.{length, take}
 use denote.Ref.{now}
-use Rattle.judge.proofs.Loops.{size}
+use Rattle.words.proofs.Loops.{size}
 use Rattle.judge.proofs.Gather.{Sums, sums-none, sums-on, sums-over, sums-few}
 use borrow.Author.Needs.{needs}
 use Rattle.judge.proofs.sound.gather.Statement.{statement}

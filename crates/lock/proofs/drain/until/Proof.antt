@@ -11,6 +11,7 @@ use Rattle.machine.specs.Drain.{until}
 use Rattle.lock.specs.Drain.{stopOf, UnderWay, goingOf}
 use Rattle.lock.specs.declared.drain.Going.{Going}
 use Rattle.lock.specs.declared.drain.Stop.{Stop}
+use Rattle.lock.proofs.Refusing.{inside}
 use Rattle.lock.proofs.Sweeps.{busy-most, own-busy, has-room, read-is, next-is, further, stopped, spent}
 use Rattle.lock.proofs.drain.until.Statement.{statement}
 use Rattle.lock.proofs.drain.until.Tie as tie
@@ -43,42 +44,43 @@ returns c =
     let e = sym (c .before .stops .ensures) ∙ c .if1 .taken in
     (l .inv .0, (omega (arith, l .inv .2), sym (stopped s g (l .inv .0) (a .i) there stop (l .left) (c .before .before .before .loop-test .taken) e) ∙ l .inv .1))
 
-enter-requires : tie.Need-enter-requires Inv-loop μ-loop
-enter-requires c κs =
-    let a = c .before .before .before .before .before .before .before .before .before .before .before .before .before .before .args in
+enter-at-requires : tie.Need-enter-at-requires Inv-loop μ-loop
+enter-at-requires c κs =
+    let a = c .before .before .before .before .before .before .before .before .before .before .before .before .args in
     let s = lists (now (a .lens)) (now (a .ops)) (now (a .vals)) in
-    let l = c .before .before .before .before .before .before .loop in
+    let l = c .before .before .before .before .loop in
     let g : Going = record { lock = l .lock; recs = l .recs; busy = l .busy; used = l .used } in
-    let there = c .before .before .before .before .before .before .before .before .before .before .before .before .before .before .pre .1 .0 in
+    let there = c .before .before .before .before .before .before .before .before .before .before .before .before .pre .1 .0 in
     let stop = stopOf (a .stop) (scriptsOf s) in
-    (has-room s g (l .inv .0) (a .i) there, (own-busy s g (l .inv .0) (a .i) there, busy-most s g (l .inv .0)))
+    let p = l .inv .0 .state in
+    let ends = inside s (g .lock) (g .recs) (a .i) _ p there (c .before .before .before .before .before .before .before .start-of .ensures) in
+    (has-room s g (l .inv .0) (a .i) there, (own-busy s g (l .inv .0) (a .i) there, (busy-most s g (l .inv .0), (ends, p .values))))
 
 mul-recs : tie.Need-mul-recs Inv-loop μ-loop
-mul-recs c = omega (arith, c .before .before .before .before .before .before .before .before .before .before .before .before .before .before .before .before .before .pre .1 .0, c .before .before .before .before .before .before .before .before .before .loop .inv .0 .state .threads)
+mul-recs c = omega (arith, c .before .before .before .before .before .before .before .before .before .before .before .before .before .before .before .pre .1 .0, c .before .before .before .before .before .before .before .loop .inv .0 .state .threads)
 
 array-set-from-recs : tie.Need-array-set-from-recs Inv-loop μ-loop
-array-set-from-recs c = omega (arith, c .before .before .before .before .before .before .before .before .before .before .before .before .before .before .before .before .before .pre .1 .0, c .before .before .before .before .before .before .before .before .before .loop .inv .0 .state .threads, c .before .before .before .before .before .before .before .before .before .loop .inv .0 .size)
+array-set-from-recs c = omega (arith, c .before .before .before .before .before .before .before .before .before .before .before .before .before .before .before .pre .1 .0, c .before .before .before .before .before .before .before .loop .inv .0 .state .threads, c .before .before .before .before .before .before .before .loop .inv .0 .size)
 
 add-used : tie.Need-add-used Inv-loop μ-loop
-add-used c = omega (arith, c .before .before .before .before .before .before .before .before .before .before .before .before .before .before .before .before .before .pre .1 .1, c .before .before .before .before .before .before .before .before .before .loop .inv .2, c .before .before .before .before .before .before .before .before .loop-test .taken)
+add-used c = omega (arith, c .before .before .before .before .before .before .before .before .before .before .before .before .before .before .before .pre .1 .1, c .before .before .before .before .before .before .before .loop .inv .2, c .before .before .before .before .before .before .loop-test .taken)
 
 loop-again : tie.Need-loop-again Inv-loop μ-loop
 loop-again c =
-    let a = c .before .before .before .before .before .before .before .before .before .before .before .before .before .before .before .before .before .args in
+    let a = c .before .before .before .before .before .before .before .before .before .before .before .before .before .before .before .args in
     let s = lists (now (a .lens)) (now (a .ops)) (now (a .vals)) in
-    let l = c .before .before .before .before .before .before .before .before .before .loop in
+    let l = c .before .before .before .before .before .before .before .loop in
     let g : Going = record { lock = l .lock; recs = l .recs; busy = l .busy; used = l .used } in
-    let there = c .before .before .before .before .before .before .before .before .before .before .before .before .before .before .before .before .before .pre .1 .0 in
+    let there = c .before .before .before .before .before .before .before .before .before .before .before .before .before .before .before .pre .1 .0 in
     let stop = stopOf (a .stop) (scriptsOf s) in
-    let e = sym (c .before .before .before .before .before .before .stops .ensures) ∙ c .before .before .before .before .before .if1 .left in
-    let o = rw (c .before .before .before .before .before .before .before .before .before .before .before .before .start-of .ensures) at (c .before .before .before .before .word-at .ensures) in
-    let v = rw (c .before .before .before .before .before .before .before .before .before .before .before .before .start-of .ensures) at (c .before .before .before .word-at2 .ensures) in
-    let is = c .before .before .enter .ensures ∙ read-is s g (l .inv .0) (a .i) there (c .before .before .before .before .word-at .result) (c .before .before .before .word-at2 .result) o v in
-    let now-is = next-is s g (l .inv .0) (a .i) there (c .before .before .enter .result) is in
-    let more = further s g (l .inv .0) (a .i) there stop (l .left) (c .before .before .before .before .before .before .before .before .loop-test .taken) e in (
+    let e = sym (c .before .before .before .before .stops .ensures) ∙ c .before .before .before .if1 .left in
+    let from = c .before .before .before .before .before .before .before .before .before .before .start-of .ensures in
+    let is = c .before .before .enter-at .ensures ∙ read-is s g (l .inv .0) (a .i) there _ from in
+    let now-is = next-is s g (l .inv .0) (a .i) there (c .before .before .enter-at .result) is in
+    let more = further s g (l .inv .0) (a .i) there stop (l .left) (c .before .before .before .before .before .before .loop-test .taken) e in (
       subst (λ (x : Going). UnderWay s x) (sym now-is) (more .0),
       subst (λ (x : Going). Whole s (a .stop) (a .i) x (l .left - 1) ≡ Whole s (a .stop) (a .i) g (l .left)) (sym now-is) (more .1) ∙ l .inv .1,
-      omega (arith, l .inv .2, c .before .before .before .before .before .before .before .before .loop-test .taken),
+      omega (arith, l .inv .2, c .before .before .before .before .before .before .loop-test .taken),
     )
 
 returns-2 : tie.Need-returns-2 Inv-loop μ-loop
@@ -105,9 +107,7 @@ until-spec =
     (λ c. search needs)
     (λ c κs. search needs)
     returns
-    (λ c κs. search needs)
-    (λ c κs. search needs)
-    enter-requires
+    enter-at-requires
     mul-recs
     array-set-from-recs
     add-used

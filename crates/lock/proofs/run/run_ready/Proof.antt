@@ -5,6 +5,7 @@ use native.Mathlib.Omega.{arith}
 use denote.Ref.{now}
 use lib.ListN.{length, getD}
 use Rattle.machine.specs.Lists.{lists, scriptsOf, beside}
+use Rattle.lock.proofs.Refusing.{inside}
 use Rattle.lock.proofs.Running.{Stepped, Going, begins, one-more, may-enter, enters, enters-not, all-done}
 use borrow.Author.Needs.{needs}
 use Rattle.lock.proofs.run.run_ready.Statement.{statement}
@@ -28,27 +29,29 @@ loop-holds c =
     let a = c .before .before .before .before .before .before .before .args in
     begins (lists (now (a .lens)) (now (a .ops)) (now (a .vals))) (a .lock) (a .recs) (now (a .schedule)) (a .n) (now (a .trace)) _ (omega arith) (c .busy-among .ensures)
 
-enter-requires : tie.Need-enter-requires Inv-loop μ-loop
-enter-requires c κs =
-    let first = c .before .before .before .before .before .before .before .before .before .before .before .before .before .before .before .before in
+enter-at-requires : tie.Need-enter-at-requires Inv-loop μ-loop
+enter-at-requires c κs =
+    let first = c .before .before .before .before .before .before .before .before .before .before .before .before .before .before in
     let a = first .args in
-    let g = c .before .before .before .before .before .before .before .before .loop in
+    let g = c .before .before .before .before .before .before .loop in
     let s = lists (now (a .lens)) (now (a .ops)) (now (a .vals)) in
+    let there = c .before .before .if1 .taken in
+    let starts = c .before .before .before .before .before .before .before .before .starts-of in
     let (at, own, all) =
     may-enter s (a .lock) (a .recs) (now (a .schedule)) (a .n) (now (a .trace)) (g .l) (g .rs) (g .busy) (g .done) (g .k) (g .trace) (g .inv) (first .pre .0) _
-    (c .before .before .before .before .if1 .taken) (omega (arith, first .good .1 .1 .1 .0))
+    there (omega (arith, first .good .1 .1 .1 .0))
     in
-    (at, (own, all))
+    (at, (own, (all, (inside s (a .lock) (a .recs) _ _ (first .pre .0) there (starts .ensures _ there), first .pre .0 .values))))
 
 mul-rs : tie.Need-mul-rs Inv-loop μ-loop
 mul-rs c =
-    let first = c .before .before .before .before .before .before .before .before .before .before .before .before .before .before .before .before .before .before .before in
-    omega (arith, c .before .before .before .before .before .before .before .if1 .taken, first .pre .0 .threads)
+    let first = c .before .before .before .before .before .before .before .before .before .before .before .before .before .before .before .before .before in
+    omega (arith, c .before .before .before .before .before .if1 .taken, first .pre .0 .threads)
 
 array-set-from-rs : tie.Need-array-set-from-rs Inv-loop μ-loop
 array-set-from-rs c =
-    let first = c .before .before .before .before .before .before .before .before .before .before .before .before .before .before .before .before .before .before .before in
-    omega (arith, c .before .before .before .before .before .before .before .if1 .taken, first .pre .0 .threads)
+    let first = c .before .before .before .before .before .before .before .before .before .before .before .before .before .before .before .before .before in
+    omega (arith, c .before .before .before .before .before .if1 .taken, first .pre .0 .threads)
 
 add-done : tie.Need-add-done Inv-loop μ-loop
 add-done c =
@@ -67,9 +70,9 @@ loop-again c =
     let t = getD (now (a .schedule)) (g .k) 0 in
     let e : Stepped (scriptsOf s) (length (now (a .lens))) (g .l) (g .rs) t (j .l) (j .rs) (j .busy) (j .row) =
     ⊎-elim
-    (λ w. rw (w .9, w .10, w .11, w .12)
-    (enters s (a .lock) (a .recs) (now (a .schedule)) (a .n) (now (a .trace)) (g .l) (g .rs) (g .busy) (g .done) (g .k) (g .trace) (g .inv) (first .pre .0) _ t _ _ _
-    (w .0 .taken) (starts .ensures t (w .0 .taken)) (w .2 .ensures) (w .3 .ensures) (w .5 .ensures)))
+    (λ w. rw (w .7, w .8, w .9, w .10)
+    (enters s (a .lock) (a .recs) (now (a .schedule)) (a .n) (now (a .trace)) (g .l) (g .rs) (g .busy) (g .done) (g .k) (g .trace) (g .inv) (first .pre .0) _ t _
+    (w .0 .taken) (starts .ensures t (w .0 .taken)) (w .3 .ensures)))
     (λ w. rw (w .1, w .2, w .3, w .4)
     (enters-not s (a .lock) (a .recs) (now (a .schedule)) (a .n) (now (a .trace)) (g .l) (g .rs) (g .busy) (g .done) (g .k) (g .trace) (g .inv) (first .pre .0) t _
     (w .0 .left) (c .before .before .before .before .before .before .row-of .ensures)))
@@ -106,13 +109,9 @@ run-ready-spec =
     (λ c. search needs)
     (λ c. search needs)
     (λ c. search needs)
-    (λ c κs. search needs)
     (λ c. search needs)
     (λ c. search needs)
-    (λ c κs. search needs)
-    (λ c. search needs)
-    (λ c. search needs)
-    enter-requires
+    enter-at-requires
     mul-rs
     array-set-from-rs
     (λ c. search needs)

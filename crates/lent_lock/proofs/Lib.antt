@@ -1,0 +1,10 @@
+pub mod Again
+pub mod Frames
+pub mod Fronts
+pub mod AnyLength
+pub mod LentLaws
+pub mod Records
+pub mod Kit
+pub mod Left
+pub mod Walks
+pub mod Lending

@@ -1,0 +1,6 @@
+pub mod Agree
+pub mod Scans
+pub mod Kept
+pub mod Judged
+pub mod Laws
+pub mod Takes

@@ -1,0 +1,47 @@
+-- The loop ends: the rounds that are left become fewer.
+use borrow.Author.Needs.{needs}
+use mathlib.Core.Path.{_≡_}
+use lib.ListN.{length}
+use Rattle.lock_bench.proofs.rounds.Statement.{statement}
+use Rattle.lock_bench.proofs.rounds.Tie as tie
+
+abbrev Inv-loop : tie.InvT-loop
+Inv-loop n schedule trace₀ now₀ left₀ trace now left = length trace ≡ length trace₀
+
+abbrev μ-loop : tie.MeasureT-loop
+μ-loop n schedule trace₀ now₀ left₀ trace now left = left
+
+loop-holds : tie.Need-loop-holds Inv-loop μ-loop
+loop-holds c = search needs
+
+round-requires : tie.Need-round-requires Inv-loop μ-loop
+round-requires c κs = search needs
+
+sub-left : tie.Need-sub-left Inv-loop μ-loop
+sub-left c = search needs
+
+loop-less : tie.Need-loop-less Inv-loop μ-loop
+loop-less c = search needs
+
+loop-again : tie.Need-loop-again Inv-loop μ-loop
+loop-again c = search needs
+
+same-length : tie.Need-same-length Inv-loop μ-loop
+same-length c = search needs
+
+returns : tie.Need-returns Inv-loop μ-loop
+returns c = search needs
+
+pub rounds-spec : {M : Type 1} → statement M
+rounds-spec =
+    tie.close
+    (tie.spec
+    Inv-loop
+    μ-loop
+    loop-holds
+    round-requires
+    sub-left
+    loop-less
+    loop-again
+    same-length
+    returns)

@@ -1,0 +1,3 @@
+pub mod PutRows
+pub mod Piece
+pub mod Stands

@@ -1,0 +1,132 @@
+-- The three demands, said of what the functions of `lock` return, so that a user of them needs no definition's text.
+use Prim.Native.Nat.{ℕ, _+_, _*_, _<_, _≤_, min, _/_}
+use mathlib.Core.Path.{_≡_}
+use mathlib.Core.Logic.{_≢_}
+use mathlib.Core.Bool.{true, false}
+use mathlib.Core.List.{List, [], _∷_, reverse}
+use lib.ListN.{length, getD, take, drop}
+use Rattle.cell.specs.Value.{isFull}
+use Rattle.cell.specs.declared.pred.Pred.{Pred}
+use Rattle.machine.specs.Names.{mostThreads, rowWords}
+use Rattle.machine.specs.Step.{here}
+use Rattle.machine.specs.Words.{bit}
+use Rattle.machine.specs.Lists.{Lent, scriptsOf}
+use Rattle.machine.specs.Sound.{tally}
+use Rattle.machine.specs.Tidy.{Tidy, bound}
+use Rattle.machine.specs.Trace.{Told}
+use Rattle.machine.specs.RunLaws.{zeroAnswers}
+use Rattle.machine.specs.Drain.{DrainLeft, drainLent}
+use Rattle.machine.specs.Run.{RunLeft, runLent}
+use Rattle.machine.specs.Demands.{Writer, Reader, SameWriter}
+use Rattle.machine.specs.declared.Lock.{Lock}
+use Rattle.machine.specs.declared.Rec.{Rec}
+use Rattle.machine.specs.declared.Row.{Row}
+use Rattle.machine.specs.declared.Refusal.{Refusal}
+use Rattle.machine.specs.declared.Place.the-variants.{Idle}
+use Rattle.machine.specs.declared.Start.the-variants.{Refused}
+use Rattle.lock.specs.ByValue.{runOf, drainOf}
+use Rattle.lock.specs.Run.{ranOf}
+use Rattle.lock.specs.Setup.{begunOf}
+use Rattle.lock.specs.Drain.{drainedOf}
+use Rattle.lock.specs.declared.run.Ran.{Ran}
+use Rattle.lock.specs.declared.setup.Begun.{Begun}
+use Rattle.lock.specs.declared.drain.Drained.{Drained}
+use Rattle.promises.specs.Reached.{Reached, ReachedByValue}
+
+-- ---- demand 1: a refused call changes nothing that is lent
+abbrev pub RefusedSetup : Type 0
+RefusedSetup =
+    (s : Lent) (q : Pred) (m v count : ℕ) (recs : List Rec) (b : Begun) (why : Refusal) → b ≡ begunOf q m v s count recs → b .start ≡ Refused why
+    → (b .recs ≡ recs) × (why .number ≢ 0)
+
+abbrev pub RefusedRun : Type 0
+RefusedRun =
+    (s : Lent) (count : ℕ) (L : Lock) (recs : List Rec) (schedule : List ℕ) (budget : ℕ) (trace : List ℕ) (r : Ran) (trace′ : List ℕ)
+    → r ≡ ranOf count recs (runOf s count L recs schedule budget trace) → trace′ ≡ runOf s count L recs schedule budget trace .trace
+    → r .refusal .number ≢ 0
+    → (r .n ≡ 0) × (r .done ≡ 0) × (r .lock ≡ L) × (r .recs ≡ recs) × (trace′ ≡ trace)
+
+abbrev pub RefusedDrain : Type 0
+RefusedDrain =
+    (s : Lent) (count : ℕ) (L : Lock) (recs : List Rec) (d : Drained) → d ≡ drainedOf count recs (drainOf s count L recs)
+    → d .refusal .number ≢ 0
+    → (d .n ≡ 0) × (d .lock ≡ L) × (d .recs ≡ recs)
+
+-- a run of one entry whose row has an answer other than 0 changes neither the lock nor a record; its row has the thread as given, access 0,
+-- got 0, and the flag and the count as they stand
+abbrev pub RefusedEntry : Type 0
+RefusedEntry =
+    (s : Lent) (count : ℕ) (L : Lock) (recs : List Rec) (i budget : ℕ) (trace : List ℕ) (r : Ran) (trace′ : List ℕ)
+    → r ≡ ranOf count recs (runOf s count L recs (i ∷ []) budget trace) → trace′ ≡ runOf s count L recs (i ∷ []) budget trace .trace
+    → r .n ≡ 1 → getD trace′ 2 0 ≢ 0
+    → (r .lock ≡ L)
+    × (r .recs ≡ recs)
+    × (r .done ≡ 0)
+    × (take rowWords trace′ ≡ i ∷ 0 ∷ getD trace′ 2 0 ∷ 0 ∷ bit (L .exc) ∷ L .rc .0 ∷ [])
+
+-- ---- run's rule, of the results: n, the number of answer-0 rows, and the other words
+abbrev pub RunCounts : Type 0
+RunCounts =
+    (s : Lent) (count : ℕ) (L : Lock) (recs : List Rec) (schedule : List ℕ) (budget : ℕ) (trace : List ℕ) (r : Ran) (trace′ : List ℕ)
+    → r ≡ ranOf count recs (runOf s count L recs schedule budget trace) → trace′ ≡ runOf s count L recs schedule budget trace .trace
+    → length recs ≡ mostThreads → r .refusal .number ≡ 0
+    → (r .n ≡ min budget (min (length schedule) (length trace / rowWords)))
+    × (r .done ≡ zeroAnswers (r .n) trace′)
+    × (drop (rowWords * r .n) trace′ ≡ drop (rowWords * r .n) trace)
+    × (drop count (r .recs) ≡ drop count recs)
+
+-- ---- demand 2: what is true of every reached state l with the rows so far, v being the first value
+pub record Kept (s : Lent) (v : ℕ) (L : Lock) (l : List Rec) (rows : List Row) : Type 0 where
+  -- 2a: no writer past code 8 beside a read handle or beside a second such writer
+  pub no-reader : Writer L l → Reader L l → ⊥
+  pub one-writer : (a b : Writer L l) → SameWriter a b
+  -- 2b: the count is that of the pending, the held and the dropped readers
+  pub counted :
+      let N = tally (scriptsOf s) l in
+      L .rc .0 ≡ N .check + N .back + N .reading + L .reads .0
+  -- 2c: every borrow, take and into_inner got what the last finished release put, or the first value
+  pub told : Told (scriptsOf s) v (reverse rows)
+
+abbrev pub Demand2 : Type 0
+Demand2 =
+    (s : Lent) (q : Pred) (m v : ℕ) (L : Lock) (l : List Rec) (rows : List Row) → Reached s q m v L l rows → Kept s v L l rows
+
+abbrev pub Demand2ByValue : Type 0
+Demand2ByValue =
+    (s : Lent) (q : Pred) (m v count : ℕ) (L : Lock) (recs : List Rec) (rows : List Row) → ReachedByValue s q m v count L recs rows
+    → Kept s v L (take count recs) rows
+
+-- and the next run with the same scripts is not refused
+abbrev pub RunsGoOn : Type 0
+RunsGoOn =
+    (s : Lent) (q : Pred) (m v : ℕ) (L : Lock) (l : List Rec) (rows : List Row) → Reached s q m v L l rows
+    → (schedule : List ℕ) (budget : ℕ) (trace : List ℕ) (left : RunLeft) → left ≡ runLent s L l schedule budget trace → left .refusal .number ≡ 0
+
+abbrev pub RunsGoOnByValue : Type 0
+RunsGoOnByValue =
+    (s : Lent) (q : Pred) (m v count : ℕ) (L : Lock) (recs : List Rec) (rows : List Row) → ReachedByValue s q m v count L recs rows
+    → (schedule : List ℕ) (budget : ℕ) (trace : List ℕ) (r : Ran) → r ≡ ranOf count recs (runOf s count L recs schedule budget trace)
+    → r .refusal .number ≡ 0
+
+-- ---- demand 3: what a drain from the tidy state L, l leaves
+pub record Over (s : Lent) (L : Lock) (l : List Rec) (why : Refusal) (n : ℕ) (L′ : Lock) (l′ : List Rec) : Type 0 where
+  -- none of 5, 6, 7, 10, 17
+  pub accepted : why .number ≡ 0
+  pub bounded : n ≤ bound (scriptsOf s) l
+  pub size : length l′ ≡ length l
+  pub ended : (j : ℕ) → j < length l → (here l′ j .place ≡ Idle) × (here l′ j .at ≡ scriptsOf s .len j)
+  pub clear : L′ .exc ≡ false
+  pub none-counted : L′ .rc .0 ≡ 0
+  pub full : isFull (L′ .cell) ≡ true
+
+abbrev pub Demand3 : Type 0
+Demand3 =
+    (s : Lent) (q : Pred) (m v : ℕ) (L : Lock) (l : List Rec) (rows : List Row) → Reached s q m v L l rows → Tidy (scriptsOf s) L l
+    → (left : DrainLeft) → left ≡ drainLent s L l
+    → Over s L l (left .refusal) (left .n) (left .lock) (left .recs)
+
+abbrev pub Demand3ByValue : Type 0
+Demand3ByValue =
+    (s : Lent) (q : Pred) (m v count : ℕ) (L : Lock) (recs : List Rec) (rows : List Row) → ReachedByValue s q m v count L recs rows
+    → Tidy (scriptsOf s) L (take count recs) → (d : Drained) → d ≡ drainedOf count recs (drainOf s count L recs)
+    → Over s L (take count recs) (d .refusal) (d .n) (d .lock) (take count (d .recs)) × (drop count (d .recs) ≡ drop count recs)

@@ -1,0 +1,76 @@
+-- The files of the cases, computed.
+use mathlib.Core.Path.{refl}
+use Rattle.cell.specs.Pred.{permits, good, ofKind}
+use Rattle.machine.specs.Refusals.{lowest}
+use Rattle.machine.specs.Step.{act, fits, sum, entryRefusal, answer, step}
+use Rattle.machine.specs.Lists.{total, find}
+use Rattle.machine.specs.Setup.{setupRefusal}
+use Rattle.machine.specs.Run.{run}
+use Rattle.text.specs.Number.{digitsTo, text}
+use Rattle.text.specs.Lines.{fields, lastField, header, rowText, refusal}
+use Rattle.lines.specs.Lines.{lines, across}
+use Rattle.lines.specs.Number.{digits, plainly, decimal, number}
+use Rattle.lines.specs.Judge.{equal, clean, fields as split, kinds, judge}
+use Rattle.scenario.specs.Scenario.{taken}
+use Rattle.scenario.specs.Refused.{refusalOf}
+use Rattle.scenario.specs.Printed.{next, ended, rowsText, output, printed}
+use Rattle.scenario.specs.Cases.{CaseA, NoLastBreak, NoRunLine, NoOpLine, RowsStand, WrongForm, Longest, WrongNumber, WrongHeader, WrongOrder, Missing, AtThePred, AtTheOp, TooLong, Cases}
+
+case-a : CaseA
+unfolding permits good ofKind lowest act fits sum entryRefusal answer step total find setupRefusal run digitsTo text fields lastField header rowText refusal lines across digits plainly decimal number equal clean split kinds judge taken refusalOf next ended rowsText output printed
+case-a = refl
+
+no-last-break : NoLastBreak
+unfolding permits good ofKind lowest act fits sum entryRefusal answer step total find setupRefusal run digitsTo text fields lastField header rowText refusal lines across digits plainly decimal number equal clean split kinds judge taken refusalOf next ended rowsText output printed
+no-last-break = refl
+
+no-run-line : NoRunLine
+unfolding permits good ofKind lowest act fits sum entryRefusal answer step total find setupRefusal run digitsTo text fields lastField header rowText refusal lines across digits plainly decimal number equal clean split kinds judge taken refusalOf next ended rowsText output printed
+no-run-line = (refl, refl)
+
+no-op-line : NoOpLine
+unfolding permits good ofKind lowest act fits sum entryRefusal answer step total find setupRefusal run digitsTo text fields lastField header rowText refusal lines across digits plainly decimal number equal clean split kinds judge taken refusalOf next ended rowsText output printed
+no-op-line = refl
+
+rows-stand : RowsStand
+unfolding permits good ofKind lowest act fits sum entryRefusal answer step total find setupRefusal run digitsTo text fields lastField header rowText refusal lines across digits plainly decimal number equal clean split kinds judge taken refusalOf next ended rowsText output printed
+rows-stand = refl
+
+wrong-form : WrongForm
+unfolding permits good ofKind lowest act fits sum entryRefusal answer step total find setupRefusal run digitsTo text fields lastField header rowText refusal lines across digits plainly decimal number equal clean split kinds judge taken refusalOf next ended rowsText output printed
+wrong-form = (refl, refl, refl, refl, refl, refl, refl, refl)
+
+longest : Longest
+unfolding permits good ofKind lowest act fits sum entryRefusal answer step total find setupRefusal run digitsTo text fields lastField header rowText refusal lines across digits plainly decimal number equal clean split kinds judge taken refusalOf next ended rowsText output printed
+longest = (refl, refl, refl, refl)
+
+wrong-number : WrongNumber
+unfolding permits good ofKind lowest act fits sum entryRefusal answer step total find setupRefusal run digitsTo text fields lastField header rowText refusal lines across digits plainly decimal number equal clean split kinds judge taken refusalOf next ended rowsText output printed
+wrong-number = (refl, refl, refl, refl, refl, refl, refl, refl, refl, refl)
+
+wrong-header : WrongHeader
+unfolding permits good ofKind lowest act fits sum entryRefusal answer step total find setupRefusal run digitsTo text fields lastField header rowText refusal lines across digits plainly decimal number equal clean split kinds judge taken refusalOf next ended rowsText output printed
+wrong-header = (refl, refl)
+
+wrong-order : WrongOrder
+unfolding permits good ofKind lowest act fits sum entryRefusal answer step total find setupRefusal run digitsTo text fields lastField header rowText refusal lines across digits plainly decimal number equal clean split kinds judge taken refusalOf next ended rowsText output printed
+wrong-order = (refl, refl, refl, refl, refl, refl, refl, refl)
+
+missing : Missing
+unfolding permits good ofKind lowest act fits sum entryRefusal answer step total find setupRefusal run digitsTo text fields lastField header rowText refusal lines across digits plainly decimal number equal clean split kinds judge taken refusalOf next ended rowsText output printed
+missing = (refl, refl, refl)
+
+at-the-pred : AtThePred
+unfolding permits good ofKind lowest act fits sum entryRefusal answer step total find setupRefusal run digitsTo text fields lastField header rowText refusal lines across digits plainly decimal number equal clean split kinds judge taken refusalOf next ended rowsText output printed
+at-the-pred = (refl, refl, refl, refl, refl, refl, refl)
+
+at-the-op : AtTheOp
+unfolding permits good ofKind lowest act fits sum entryRefusal answer step total find setupRefusal run digitsTo text fields lastField header rowText refusal lines across digits plainly decimal number equal clean split kinds judge taken refusalOf next ended rowsText output printed
+at-the-op = (refl, refl, refl, refl)
+
+too-long : TooLong
+unfolding permits good ofKind lowest act fits sum entryRefusal answer step total find setupRefusal run digitsTo text fields lastField header rowText refusal lines across digits plainly decimal number equal clean split kinds judge taken refusalOf next ended rowsText output printed
+too-long = (refl, refl)
+
+pub cases : Cases
+cases = (case-a, no-last-break, no-run-line, no-op-line, rows-stand, wrong-form, longest, wrong-number, wrong-header, wrong-order, missing, at-the-pred, at-the-op, too-long)

@@ -1,0 +1,6 @@
+pub mod Cases
+pub mod Adds
+pub mod OpAdded
+pub mod Setup
+pub mod ByBytes
+pub mod Pieces

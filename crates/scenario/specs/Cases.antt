@@ -1,0 +1,155 @@
+-- Scenario files, whole, with what they print: case A, each refusal at its line, and the edges of the rules. Each is computed.
+use Prim.Native.Nat.{ℕ}
+use Prim.Native.String.{String}
+use mathlib.Core.Path.{_≡_}
+use mathlib.Core.List.{List, [], _∷_, _++_}
+use lib.ListN.{length, replicate}
+use Rattle.lines.specs.Ascii.{bytes}
+use Rattle.scenario.specs.Printed.{printed}
+
+-- lines, each with its break
+abbrev pub file : List String → List ℕ
+file [] = []
+file (l ∷ ls) = bytes l ++ (bytes "\r\n" ++ file ls)
+
+-- a file prints the header and these lines
+abbrev pub Prints : List ℕ → List String → Type 0
+Prints f ls = printed f ≡ file ("n,thread,access,answer,got,exc,rc" ∷ ls)
+
+abbrev pub opening : List String
+opening = "kind,a,b,c" ∷ "lock,3,5,1" ∷ "pred,1,5,13" ∷ []
+
+-- ---- 1: case A
+abbrev pub CaseA : Type 0
+CaseA =
+    Prints
+    (file (opening ++ ("op,0,1,0" ∷ "op,0,2,0" ∷ "op,0,3,0" ∷ "run,0,6,0" ∷ [])))
+    ("0,0,1,0,0,0,0" ∷ "1,0,2,0,1,0,1" ∷ "2,0,3,0,0,0,1" ∷ "3,0,5,0,5,0,1" ∷ "4,0,6,0,1,0,0" ∷ "5,0,0,12,0,0,0" ∷ [])
+
+-- ---- 2: the last break is optional
+abbrev pub NoLastBreak : Type 0
+NoLastBreak = Prints (file (opening ++ ("op,0,7,0" ∷ [])) ++ bytes "run,0,1,0") ("0,0,7,0,1,1,0" ∷ [])
+
+-- ---- 3: no run line prints the header alone; a thread without an op line has an empty script
+abbrev pub NoRunLine : Type 0
+NoRunLine = Prints (file opening) [] × Prints (file (opening ++ ("op,0,1,0" ∷ []))) []
+
+abbrev pub NoOpLine : Type 0
+NoOpLine = Prints (file (opening ++ ("run,0,1,0" ∷ "run,255,1,0" ∷ []))) ("0,0,0,12,0,0,0" ∷ "1,255,0,11,0,0,0" ∷ [])
+
+-- ---- 4: rows before a refusal stand, and nothing after it is read
+abbrev pub RowsStand : Type 0
+RowsStand =
+    Prints (file (opening ++ ("op,0,1,0" ∷ "run,0,1,0" ∷ "op,0,1,0" ∷ "run,0,1,0" ∷ []))) ("0,0,1,0,0,0,0" ∷ "refused,32,6" ∷ [])
+
+-- ---- 5: 31, by its causes
+-- each is the second line of a file
+abbrev pub Second : String → String → Type 0
+Second line why = Prints (file ("kind,a,b,c" ∷ line ∷ [])) (why ∷ [])
+
+-- each is the line after the opening
+abbrev pub Fourth : String → String → Type 0
+Fourth line why = Prints (file (opening ++ (line ∷ []))) (why ∷ [])
+
+abbrev pub WrongForm : Type 0
+WrongForm =
+    Second "lock,3,5" "refused,31,2"
+    × Second "lock,3,5,1,0" "refused,31,2"
+    × Second "" "refused,31,2"
+    × Second "lock,3,5,\"1\"" "refused,31,2"
+    × Second "lock,3,5\r,1" "refused,31,2"
+    × Second "lock,3\n,5,1" "refused,31,2"
+    × Prints (bytes "kind,a,b,c\r") ("refused,31,1" ∷ [])
+    × Prints (bytes "kind,a,b,c\nlock,3,5,1\n") ("refused,31,1" ∷ [])
+
+-- 80 bytes before the break are allowed, 81 are not
+abbrev pub long : ℕ → List ℕ
+long n = replicate n 107 ++ bytes ",1,2,3"
+
+abbrev pub Longest : Type 0
+Longest =
+    (length (long 74) ≡ 80)
+    × Prints (long 74 ++ bytes "\r\n") ("refused,32,1" ∷ [])
+    × Prints (long 75 ++ bytes "\r\n") ("refused,31,1" ∷ [])
+    × Prints (long 75) ("refused,31,1" ∷ [])
+
+abbrev pub WrongNumber : Type 0
+WrongNumber =
+    Second "lock,03,5,1" "refused,31,2"
+    × Second "lock,3,,1" "refused,31,2"
+    × Second "lock,3,5,+1" "refused,31,2"
+    × Second "lock,18446744073709551616,5,1" "refused,31,2"
+    × Second "kind,a,b,c" "refused,31,2"
+    × Second "foo,x,2,3" "refused,31,2"
+    × Fourth "run,256,1,0" "refused,31,4"
+    × Fourth "run,0,0,0" "refused,31,4"
+    × Fourth "run,0,65536,0" "refused,31,4"
+    × Fourth "run,0,1,1" "refused,31,4"
+
+-- ---- 6: 32, by its causes
+abbrev pub WrongHeader : Type 0
+WrongHeader = Prints (file ("kind,a,b,d" ∷ [])) ("refused,32,1" ∷ []) × Prints (file ("lock,3,5,1" ∷ [])) ("refused,32,1" ∷ [])
+
+abbrev pub WrongOrder : Type 0
+WrongOrder =
+    Second "foo,1,2,3" "refused,32,2"
+    × Second "pred,1,5,13" "refused,32,2"
+    × Second "run,0,1,0" "refused,32,2"
+    × Fourth "lock,3,5,1" "refused,32,4"
+    × Fourth "pred,1,5,13" "refused,32,4"
+    × Fourth "op,1,1,0" "refused,32,4"
+    × Prints (file ("kind,a,b,c" ∷ "lock,3,5,2" ∷ "pred,0,0,0" ∷ "op,1,1,0" ∷ "op,0,1,0" ∷ [])) ("refused,32,5" ∷ [])
+    × Prints (file (opening ++ ("run,0,1,0" ∷ "op,0,1,0" ∷ []))) ("0,0,0,12,0,0,0" ∷ "refused,32,5" ∷ [])
+
+-- a missing line, at the line after the last
+abbrev pub Missing : Type 0
+Missing =
+    Prints [] ("refused,32,1" ∷ [])
+    × Prints (file ("kind,a,b,c" ∷ [])) ("refused,32,2" ∷ [])
+    × Prints (file ("kind,a,b,c" ∷ "lock,3,5,1" ∷ [])) ("refused,32,3" ∷ [])
+
+-- ---- 7: setup's numbers
+-- with these lock and pred lines
+abbrev pub Opened : String → String → String → Type 0
+Opened lock pred why = Prints (file ("kind,a,b,c" ∷ lock ∷ pred ∷ [])) (why ∷ [])
+
+abbrev pub AtThePred : Type 0
+AtThePred =
+    Opened "lock,3,5,0" "pred,1,5,13" "refused,1,3"
+    × Opened "lock,0,5,17" "pred,3,5,13" "refused,1,3"
+    × Opened "lock,0,5,1" "pred,3,5,13" "refused,2,3"
+    × Opened "lock,3,5,1" "pred,3,5,13" "refused,3,3"
+    × Opened "lock,3,5,1" "pred,2,2,0" "refused,3,3"
+    × Opened "lock,3,6,1" "pred,1,5,13" "refused,4,3"
+    × Opened "lock,3,5,1" "pred,2,0,0" "refused,4,3"
+
+abbrev pub AtTheOp : Type 0
+AtTheOp =
+    Fourth "op,0,8,0" "refused,7,4"
+    × Fourth "op,0,0,0" "refused,7,4"
+    × Fourth "op,0,4,5" "refused,7,4"
+    × Fourth "op,1,8,0" "refused,32,4"
+
+-- the 65th op line of a thread
+abbrev pub TooLong : Type 0
+TooLong =
+    Prints (file (opening ++ replicate 64 "op,0,2,0")) []
+    × Prints (file (opening ++ replicate 65 "op,0,2,0")) ("refused,5,68" ∷ [])
+
+-- ---- the one statement
+abbrev pub Cases : Type 0
+Cases =
+    CaseA
+    × NoLastBreak
+    × NoRunLine
+    × NoOpLine
+    × RowsStand
+    × WrongForm
+    × Longest
+    × WrongNumber
+    × WrongHeader
+    × WrongOrder
+    × Missing
+    × AtThePred
+    × AtTheOp
+    × TooLong

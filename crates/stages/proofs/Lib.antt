@@ -1,0 +1,9 @@
+pub mod Clears
+pub mod Asks
+pub mod Chosen
+pub mod Lefts
+pub mod Few
+pub mod Alike
+pub mod Grows
+pub mod Means
+pub mod Runs
