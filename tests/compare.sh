@@ -1,0 +1,50 @@
+#!/bin/sh
+# Compares a program with the second program, oracle/lock.rs, on every scenario file that oracle/scenarios.rs makes, byte for byte.
+# usage: tests/compare.sh [-f FAMILY] [-e EVERY] [-w WORKERS] [PROGRAM [WORD...]]
+#   PROGRAM and its words   a path from the repository's root; reads a scenario on standard input and prints its trace; target/bin/runner where none is given. A program
+#                           under target/bin is run as rt runs it, under the kit's emulator where the machine is not x86-64
+#   -f FAMILY               takes one family of files only, as `scenarios.rs` names them (all)
+#   -e EVERY                takes every EVERY-th file of each family only (1, which is 81,025 files)
+#   -w WORKERS              so many files at a time (2)
+# Each file costs two processes, about 23 ms of processor time under the emulator (measured with the plain C runner in the program's
+# place): all of them a quarter of an hour on two cores, 100,000 would be 19 minutes.
+# Its status is 0 where nothing differs. Files on which the two differ, up to twenty of each family, are kept in target/compare.
+set -eu
+cd "$(dirname "$0")/.."
+family=all
+every=1
+workers=2
+while getopts f:e:w: option; do
+    case $option in
+    f) family=$OPTARG ;;
+    e) every=$OPTARG ;;
+    w) workers=$OPTARG ;;
+    *) exit 2 ;;
+    esac
+done
+shift $((OPTIND - 1))
+[ $# -gt 0 ] || set -- target/bin/runner
+case $1 in
+*/*)
+    [ -x "$1" ] || {
+        echo "compare: no program $1: build it first (rt check NAME builds target/bin/NAME)" >&2
+        exit 2
+    }
+    ;;
+esac
+command -v rustc >/dev/null || {
+    echo "compare: rustc is needed to build oracle/lock.rs and oracle/scenarios.rs" >&2
+    exit 2
+}
+rm -rf target/compare
+mkdir -p target/compare
+rustc -O --edition 2021 oracle/lock.rs -o target/compare/lock
+rustc -O --edition 2021 oracle/scenarios.rs -o target/compare/scenarios
+case $1 in
+target/bin/*)
+    kit=$(dirname "$(dirname "$(rt doc)")")/on/$(uname -m)/toolchain
+    set -- "$kit/lib/ld-linux-x86-64.so.2" --library-path "$kit/lib" "$@"
+    [ ! -x "$kit/bin/qemu-x86_64" ] || set -- "$kit/bin/qemu-x86_64" "$@"
+    ;;
+esac
+target/compare/scenarios compare "$workers" "$every" "$family" target/compare target/compare/lock "$@"
