@@ -741,6 +741,14 @@ impl<'a> Machine<'a> {
         }
     }
 
+    // Where a thread stands, and the operation that it is at, 0 at its script's end.
+    fn stands(&self, number: u64) -> Option<(Place, u64)> {
+        let i = usize::try_from(number).ok()?;
+        let thread = self.threads.get(i)?;
+        let op = self.scripts.op(i, thread.at).map_or(0, |x| x.0);
+        Some((thread.place(), op))
+    }
+
     fn entry(&mut self, number: u64) -> Row {
         let (code, answer, got) = match self.refusal(number) {
             Ok((op, v)) => {
@@ -1210,6 +1218,9 @@ const SETUP: u64 = 1;
 const RUN: u64 = 2;
 const DRAIN: u64 = 3;
 
+// What a line that is wrong on purpose is there for.
+const WRONG: u64 = 999;
+
 #[derive(Clone)]
 struct Direct {
     what: u64,
@@ -1229,7 +1240,12 @@ struct Told {
     lock: Option<State>,
     records: Vec<Record>,
     trace: Vec<u64>,
+    // What the list touches with it, for the report alone.
+    ways: Vec<Way>,
 }
+
+// The way of an accepted entry: from which place, by which operation, with which access, and to which place.
+type Way = (Place, u64, u64, Place);
 
 impl Direct {
     fn refusal(&self) -> Option<Refusal> {
@@ -1250,6 +1266,15 @@ impl Direct {
         })
     }
 
+    // The fields of its line, and where its answer starts in them.
+    fn line(&self) -> (Vec<u64>, usize) {
+        let mut line = Line::default();
+        line.before(self);
+        let from = line.0.len();
+        line.after(&self.answer());
+        (line.0, from)
+    }
+
     fn answer(&self) -> Told {
         let mut told = Told {
             refused: (0, 0, 0),
@@ -1258,6 +1283,7 @@ impl Direct {
             lock: (self.call != SETUP).then(|| self.state.clone()),
             records: self.state.records.clone(),
             trace: self.trace.clone(),
+            ways: Vec::new(),
         };
         if let Some(refused) = self.refusal() {
             told.refused = refused;
@@ -1287,9 +1313,14 @@ impl Direct {
         let room = self.trace.len() as u64 / 6;
         told.n = self.budget.min(self.schedule.len() as u64).min(room);
         for (k, thread) in self.schedule.iter().take(told.n as usize).enumerate() {
+            let before = machine.stands(*thread);
             let row = machine.entry(*thread);
             told.trace[6 * k..6 * k + 6].copy_from_slice(&row);
             told.done += u64::from(row[2] == 0);
+            if let (0, Some((from, op)), Some((to, _))) = (row[2], before, machine.stands(*thread))
+            {
+                told.ways.push((from, op, row[1], to));
+            }
         }
     }
 
@@ -1470,9 +1501,12 @@ struct List<W: Write> {
     random: Random,
     lines: Vec<(u64, u64)>,
     refused: Vec<(u64, u64)>,
+    // Of the entries of runs: the numbers of the refused ones, and the ways of the others.
+    entries: Vec<(u64, u64)>,
+    ways: Vec<(Way, u64)>,
 }
 
-fn count_up(counts: &mut Vec<(u64, u64)>, key: u64) {
+fn count_up<K: PartialEq>(counts: &mut Vec<(K, u64)>, key: K) {
     match counts.iter_mut().find(|c| c.0 == key) {
         Some(c) => c.1 += 1,
         None => counts.push((key, 1)),
@@ -1492,6 +1526,14 @@ impl<W: Write> List<W> {
         line.after(&told);
         count_up(&mut self.lines, d.what);
         count_up(&mut self.refused, told.refused.0);
+        for row in told.trace.chunks_exact(6).take(told.n as usize) {
+            if d.call == RUN && row[2] != 0 {
+                count_up(&mut self.entries, row[2]);
+            }
+        }
+        for way in &told.ways {
+            count_up(&mut self.ways, *way);
+        }
         writeln!(self.out, "{}", join(&line.0))?;
         Ok(told)
     }
@@ -2084,11 +2126,58 @@ impl<W: Write> List<W> {
         Ok(())
     }
 
-    // Lines that are wrong in one field each, made from a good one: a mover that waits, and another thread that is refused.
+    // What the list touches. It has to be every number of a call and of an entry, and every way of an entry: the table has 13 rows, three
+    // of them for two operations or two places, which makes 16, and seven of these have two outcomes.
+    fn touched(&mut self) {
+        self.lines.sort_unstable();
+        self.refused.sort_unstable();
+        self.entries.sort_unstable();
+        self.ways
+            .sort_unstable_by_key(|(way, _)| (way.2, way.1, way.0 as u64, way.3 as u64));
+        for (what, n) in &self.lines {
+            eprintln!("what {what}: {n} lines");
+        }
+        for (number, n) in &self.refused {
+            eprintln!("number {number}: {n} answers");
+        }
+        for (number, n) in &self.entries {
+            eprintln!("number {number}: {n} entries");
+        }
+        for ((from, op, code, to), n) in &self.ways {
+            eprintln!("access {code}: operation {op} from {from:?} to {to:?}: {n} entries");
+        }
+        let numbers = |counts: &[(u64, u64)]| counts.iter().map(|c| c.0).collect::<Vec<u64>>();
+        assert_eq!(numbers(&self.refused), [0, 1, 2, 3, 4, 5, 6, 7, 10, 17]);
+        assert_eq!(numbers(&self.entries), [11, 12, 13, 14, 15, 16]);
+        assert_eq!(self.ways.len(), 23, "the ways of an entry");
+        eprintln!("{} lines", self.lines.iter().map(|c| c.1).sum::<u64>());
+    }
+
+    // Lines that are wrong in one field each, made from good ones.
     fn wrong(&mut self) -> io::Result<()> {
+        let run = self.wrong_runs()?;
+        // A setup that is refused, and yet a lock; a drain that counts one more.
+        let mut setup = Direct {
+            call: SETUP,
+            state: fresh_state(3, PREDS[1].0, 7, 2),
+            schedule: Vec::new(),
+            budget: 0,
+            trace: Vec::new(),
+            ..run
+        };
+        let (line, from) = setup.line();
+        self.wrong_in(&line, from + 12, 3)?;
+        (setup.call, setup.state.kept) = (DRAIN, 5);
+        setup.scripts = Scripts::of(&[vec![(1, 0), (3, 0)], vec![(4, 0), (5, 13)]]);
+        let (line, from) = setup.line();
+        self.wrong_in(&line, from + 3, line[from + 3] + 1)
+    }
+
+    // From a run with a mover that waits, and another thread that is refused: each thing that is compared, and a field that lacks.
+    fn wrong_runs(&mut self) -> io::Result<Direct> {
         let x = Scripts::of(&[vec![(1, 0), (6, 0), (7, 0)], vec![(4, 0), (5, 13)]]);
         let mut d = Direct {
-            what: 999,
+            what: WRONG,
             call: RUN,
             state: fresh_state(3, PREDS[0].0, 5, 2),
             scripts: x,
@@ -2098,10 +2187,7 @@ impl<W: Write> List<W> {
         };
         d.state = d.answer().lock.expect("a lock");
         d.schedule = vec![0, 0, 1];
-        let mut line = Line::default();
-        line.before(&d);
-        let from = line.0.len();
-        line.after(&d.answer());
+        let (line, from) = d.line();
         // The numbers before the lock, the lock, the first record, and the first, the last row's and the last word of the trace.
         let trace = from + 5 + 13 + 9 + 1;
         let fields =
@@ -2109,14 +2195,19 @@ impl<W: Write> List<W> {
                 .chain(from + 19..from + 23)
                 .chain([trace, trace + 17, trace + 23]);
         for field in fields {
-            let mut wrong = line.0.clone();
-            wrong[field] ^= 1;
-            count_up(&mut self.lines, d.what);
-            writeln!(self.out, "{}", join(&wrong))?;
+            self.wrong_in(&line, field, line[field] ^ 1)?;
         }
-        line.0.pop();
-        count_up(&mut self.lines, d.what);
-        writeln!(self.out, "{}", join(&line.0))
+        // The second record, which is Idle, at a place that there is none.
+        self.wrong_in(&line, from + 24, 9)?;
+        self.wrong_in(&line[..line.len() - 1], 0, WRONG)?;
+        Ok(d)
+    }
+
+    fn wrong_in(&mut self, line: &[u64], field: usize, to: u64) -> io::Result<()> {
+        let mut wrong = line.to_vec();
+        wrong[field] = to;
+        count_up(&mut self.lines, WRONG);
+        writeln!(self.out, "{}", join(&wrong))
     }
 }
 
@@ -2160,6 +2251,8 @@ fn direct(out: impl Write) -> io::Result<()> {
         random: Random(20_261_115),
         lines: Vec::new(),
         refused: Vec::new(),
+        entries: Vec::new(),
+        ways: Vec::new(),
     };
     writeln!(list.out, "{DIRECT_HEADER}")?;
     list.orders()?;
@@ -2173,15 +2266,7 @@ fn direct(out: impl Write) -> io::Result<()> {
     list.largest()?;
     list.beside()?;
     list.wrong()?;
-    list.lines.sort_unstable();
-    list.refused.sort_unstable();
-    for (what, n) in &list.lines {
-        eprintln!("what {what}: {n} lines");
-    }
-    for (number, n) in &list.refused {
-        eprintln!("number {number}: {n} answers");
-    }
-    eprintln!("{} lines", list.lines.iter().map(|c| c.1).sum::<u64>());
+    list.touched();
     list.out.flush()
 }
 

@@ -5,12 +5,19 @@
 //     scenarios print FAMILY N                                 the N-th file of a family, from 0
 //     scenarios compare WORKERS EVERY FAMILY FOLDER SECOND COMMAND..
 //         compares on every EVERY-th file of a family, or of all, so many at a time; files on which the two differ are kept in FOLDER
+//     scenarios list FOLDER SECOND
+//         the list that crates/scenario_list replays: files chosen by family, each with what the second program prints
+//
+// The list is text, a line a file, ended by LF: the file's bytes, `|`, the bytes that it prints. A byte that is no printable ASCII, a `|`
+// and a `\` stand as `\` with two digits of base 16. Its last lines are wrong on purpose, so that a replay which finds everything equal
+// shows it.
 //
 // A file is one input, so each costs two processes. What fits in one file is packed into it where that is the same: when all the threads
 // of a play are at their script's end and nothing is held, flag and count stand as after setup, so the next play can follow in the same
 // file, by the same threads or by others. Families:
 //
 //   marked    the marked cases that a file can show
+//   edges     each refusal number of a file at its line, and each rule of lines at its edge
 //   damaged   every rule of a line broken in every line, truncations, bytes flipped, put in, taken out and exchanged, breaks, setup's
 //             numbers against each other, scripts of 64 and 65 operations
 //   pairs     two threads with every script of up to three operations, M 1 to 3: every entry in every state that a schedule of any length
@@ -360,6 +367,87 @@ const ODD_LINES: [&str; 58] = [
     "run;0;1;0",
     "run\t0\t1\t0",
 ];
+
+// Lines in the place of line k of the good file, from 1, or after its last one: each refusal number, each rule at its edge.
+const EDGES: [(usize, &str); 44] = [
+    (1, "kind,a,b,d"),
+    (1, "kind,a,b"),
+    (1, "kind,a,b,\"c\""),
+    (1, "lock,3,5,2"),
+    (2, "lock,x,5,2"),
+    (2, "lock,03,5,2"),
+    (2, "lock,18446744073709551615,5,2"),
+    (2, "lock,18446744073709551616,5,2"),
+    (2, "lock,0,5,2"),
+    (2, "lock,3,7,2"),
+    (2, "lock,3,5,0"),
+    (2, "lock,3,5,16"),
+    (2, "lock,3,5,17"),
+    (2, "pred,1,5,13"),
+    (3, "lock,3,5,2"),
+    (3, "pred,3,5,13"),
+    (3, "pred,2,2,0"),
+    (3, "pred,2,1,0"),
+    (3, "pred,2,0,0"),
+    (3, "run,0,1,0"),
+    (4, "op,0,0,0"),
+    (4, "op,0,8,0"),
+    (4, "op,0,1,1"),
+    (4, "op,2,1,0"),
+    (4, "op,1,1,0"),
+    (4, "foo,0,1,0"),
+    (4, "foo,x,1,0"),
+    (4, "pred,1,5,13"),
+    (4, ""),
+    (4, "op,0,1"),
+    (4, "op,0,1,0,"),
+    (4, "op,0,1,0\r"),
+    (4, "op,0,1,0\n"),
+    (4, "op,\r0,1,0"),
+    (9, "run,255,1,0"),
+    (9, "run,256,1,0"),
+    (9, "run,0,65535,0"),
+    (9, "run,0,65536,0"),
+    (9, "run,0,0,0"),
+    (9, "run,0,1,1"),
+    (9, "op,1,5,13"),
+    (9, "lock,3,5,2"),
+    (99, "run,0,1,0"),
+    (99, ""),
+];
+
+fn edges(put: &mut dyn FnMut(Vec<u8>)) {
+    let lines = good().lines();
+    for (place, line) in EDGES {
+        let mut other = lines.clone();
+        other.truncate(place - 1);
+        other.push(line.to_string());
+        other.extend(lines.iter().skip(place).cloned());
+        put(text(&other));
+        // the same as the last line, without its break
+        put(other.join("\r\n").into_bytes());
+    }
+    for length in [79, 80, 81] {
+        put(text(&["x".repeat(length)]));
+        put("y".repeat(length).into_bytes());
+        put(("y".repeat(length) + "\r").into_bytes());
+        let mut other = lines.clone();
+        other[3] = format!("op,0,1,{}", "0".repeat(length - 7));
+        put(text(&other));
+    }
+    for whole in ["", "\r", "\n", "\r\n", "\r\n\r\n", "\"", "kind,a,b,c", "kind,a,b,c\r", "kind,a,b,c\n", "kind,a,b,c\r\n"] {
+        put(whole.as_bytes().to_vec());
+    }
+    for lines in [&lines[..2], &lines[..3], &lines[..8]] {
+        put(text(lines));
+        put(lines.join("\r\n").into_bytes());
+    }
+    let long = |last| [plain(&[1, 3]).repeat(32), vec![last]].concat();
+    for last in [(1, 0), (8, 0), (3, 1)] {
+        put(Scenario::new(3, EITHER, vec![long(last)], vec![0; 3]).text());
+    }
+    put(Scenario::new(3, EITHER, vec![plain(&[1, 3]).repeat(32)], vec![0; 70]).text());
+}
 
 // Lines to put in the place of a good one, or beside it.
 fn odd_lines() -> Vec<String> {
@@ -872,7 +960,7 @@ impl Random {
 
 fn short(put: &mut dyn FnMut(Vec<u8>)) {
     let mut random = Random(20_261_101);
-    for _ in 0..12_000 {
+    for _ in 0..31_500 {
         let (threads, length, entries) = (1 + random.below(5), random.below(9), random.below(90));
         put(random.scenario(threads, length, 12, entries).text());
     }
@@ -913,8 +1001,9 @@ fn all_marked(put: Put) {
     marked().iter().for_each(|s| put(s.text()));
 }
 
-const FAMILIES: [(&str, fn(Put)); 7] = [
+const FAMILIES: [(&str, fn(Put)); 8] = [
     ("marked", all_marked),
+    ("edges", edges),
     ("damaged", damaged),
     ("pairs", pairs),
     ("plays", plays),
@@ -1066,8 +1155,75 @@ fn print_one(name: &str, wanted: u64) {
     }
 }
 
+// ---------------------------------------------------------------------------------------------------------------------------------------
+// The list that is replayed.
+
+// Of each family every so many-th file, as far as it is no longer than `LISTED`, and what it prints no longer than `PRINTED`.
+const CHOSEN: [u64; 8] = [1, 1, 13, 997, 0, 0, 199, 0];
+
+const LISTED: usize = 2_000;
+
+const PRINTED: usize = 4_000;
+
+fn escaped(bytes: &[u8]) -> String {
+    let mut s = String::new();
+    for &b in bytes {
+        match b {
+            b'|' | b'\\' => s += &format!("\\{b:02x}"),
+            b' '..=b'~' => s.push(char::from(b)),
+            _ => s += &format!("\\{b:02x}"),
+        }
+    }
+    s
+}
+
+// Wrong on purpose: a byte of a row, a row too few, a byte too many, another refusal, no bar.
+fn wrong_ones(text: &[u8], printed: &[u8]) {
+    let (file, rows) = (escaped(text), escaped(printed));
+    let mut other = printed.to_vec();
+    other[40] ^= 1;
+    println!("{file}|{}", escaped(&other));
+    println!("{file}|{}", &rows[..rows.len() - 19]);
+    println!("{file}|{rows} ");
+    println!("{file}|{rows}refused,32,9\\0d\\0a");
+    println!("{file}{rows}");
+}
+
+fn list(folder: &Path, second: &str) -> io::Result<()> {
+    fs::create_dir_all(folder)?;
+    let input = folder.join("input");
+    let command = [second.to_string(), "run".to_string()];
+    let mut first = None;
+    for ((_, make), every) in FAMILIES.iter().zip(CHOSEN).filter(|f| f.1 > 0) {
+        let mut chosen = Vec::new();
+        let mut n = 0;
+        make(&mut |text| {
+            if n % every == 0 && text.len() <= LISTED {
+                chosen.push(text);
+            }
+            n += 1;
+        });
+        for text in chosen {
+            fs::write(&input, &text)?;
+            let printed = prints(&command, &input)?.unwrap_or_default();
+            if printed.len() <= PRINTED {
+                println!("{}|{}", escaped(&text), escaped(&printed));
+                first.get_or_insert((text, printed));
+            }
+        }
+    }
+    fs::remove_file(&input)?;
+    if let Some((text, printed)) = first {
+        wrong_ones(&text, &printed);
+    }
+    Ok(())
+}
+
 fn usage() -> ExitCode {
-    eprintln!("usage: scenarios count, scenarios print FAMILY N, or scenarios compare WORKERS EVERY FAMILY FOLDER SECOND COMMAND..");
+    eprintln!(
+        "usage: scenarios count, scenarios print FAMILY N, scenarios list FOLDER SECOND, \
+         or scenarios compare WORKERS EVERY FAMILY FOLDER SECOND COMMAND.."
+    );
     ExitCode::from(2)
 }
 
@@ -1080,6 +1236,12 @@ fn main() -> ExitCode {
             Ok(n) => print_one(name, n),
             Err(_) => return usage(),
         },
+        ["list", folder, second] => {
+            if let Err(e) = list(Path::new(folder), second) {
+                eprintln!("scenarios: {second}: {e}");
+                return ExitCode::from(2);
+            }
+        }
         ["compare", workers, every, family, folder, second, _, ..] => {
             let (Ok(workers), Ok(every @ 1..)) = (workers.parse(), every.parse()) else {
                 return usage();

@@ -4,10 +4,10 @@
 #   PROGRAM and its words   a path from the repository's root; reads a scenario on standard input and prints its trace; target/bin/runner where none is given. A program
 #                           under target/bin is run as rt runs it, under the kit's emulator where the machine is not x86-64
 #   -f FAMILY               takes one family of files only, as `scenarios.rs` names them (all)
-#   -e EVERY                takes every EVERY-th file of each family only (1, which is 81,025 files)
+#   -e EVERY                takes every EVERY-th file of each family only (1, which is 100,645 files)
 #   -w WORKERS              so many files at a time (2)
 # Each file costs two processes, about 23 ms of processor time under the emulator (measured with the plain C runner in the program's
-# place): all of them a quarter of an hour on two cores, 100,000 would be 19 minutes.
+# place): all of them 19 minutes on two cores.
 # Its status is 0 where nothing differs. Files on which the two differ, up to twenty of each family, are kept in target/compare.
 set -eu
 cd "$(dirname "$0")/.."

@@ -2,7 +2,6 @@
 // words of the trace list that no row takes, what each piece returned, and what the drain returned.
 use atomic::Count;
 use cell::pred::Pred;
-use lent_lock::held;
 use libc::STDOUT_FILENO;
 use machine::Lock;
 use machine::Place;
@@ -10,13 +9,13 @@ use machine::Rec;
 use machine::Refusal;
 use machine::Start;
 
-const THREADS: usize = 3;
+const THREADS: u64 = 3;
 
 fn main() {
     let lens = [2u64, 2, 2];
     let ops = [1u64, 3, 1, 3, 4, 5];
     let vals = [0u64; 6];
-    let begun = held::setup(
+    let begun = held_lock::setup(
         Pred::Any,
         Count(2),
         0,
@@ -38,12 +37,11 @@ fn main() {
 fn replay(lens: &[u64], ops: &[u64], vals: &[u64], lock: Lock, recs: [Rec; 16]) {
     let mut trace = [99u64; 80];
     let first = [0u64, 0, 2];
-    let one = held::run(lens, ops, vals, lock, recs, THREADS, &first, 3, &mut trace);
-    let ran = one.ran;
-    let lock = ran.lock;
+    let one = held_lock::run(lens, ops, vals, lock, recs, THREADS, &first, 3, &mut trace);
+    let lock = one.lock;
     let recs = one.recs;
     let cycle = [1u64, 1, 0, 0, 2, 0, 0, 1, 1, 2];
-    let two = held::run_rest(
+    let two = held_lock::run_rest(
         lens,
         ops,
         vals,
@@ -52,23 +50,21 @@ fn replay(lens: &[u64], ops: &[u64], vals: &[u64], lock: Lock, recs: [Rec; 16]) 
         THREADS,
         &cycle,
         10,
-        ran.n,
+        one.n,
         &mut trace,
     );
-    let again = two.ran;
     print_words(&trace);
-    print_numbers(b"run", ran.n, ran.done);
-    print_numbers(b"run", again.n, again.done);
-    let lock = again.lock;
+    print_numbers(b"run", one.n, one.done);
+    print_numbers(b"run", two.n, two.done);
+    let lock = two.lock;
     let recs = two.recs;
     finish(lens, ops, vals, lock, recs);
 }
 
 fn finish(lens: &[u64], ops: &[u64], vals: &[u64], lock: Lock, recs: [Rec; 16]) {
-    let left = held::drain(lens, ops, vals, lock, recs, THREADS);
-    let drained = left.drained;
-    let why = drained.refusal;
-    print_numbers(b"drain", why.number, drained.n);
+    let left = held_lock::drain(lens, ops, vals, lock, recs, THREADS);
+    let why = left.refusal;
+    print_numbers(b"drain", why.number, left.n);
 }
 
 fn refused(why: Refusal) {

@@ -21,7 +21,8 @@ use Rattle.machine.proofs.RunLaws.{run-one}
 use Rattle.machine.proofs.Ends.{refused-drain as of-drain}
 use Rattle.machine.proofs.Setup.{refused-setup as of-setup}
 use Rattle.lock.proofs.Refusing.{earlier, later, bad}
-use Rattle.lent_lock.specs.LentLaws.{RefusedSetup, RefusedRun, RefusedRest, RefusedStep, RefusedDrain, PastSixteen, OneEntry, LaterPiece}
+use Rattle.lock.proofs.Begins.{count-most}
+use Rattle.lent_lock.specs.LentLaws.{RefusedSetup, RefusedRun, RefusedRest, RefusedStep, RefusedDrain, PastSixteen, SetupPastSixteen, OneEntry, LaterPiece}
 use Rattle.lent_lock.proofs.AnyLength.{as-many}
 
 -- ---- a refused call
@@ -80,6 +81,9 @@ module _ (s : Lent) (L : Lock) (l : List Rec) (many : mostThreads < length l) wh
 
 pub past-sixteen : PastSixteen
 past-sixteen s L l many = (run-past s L l many, drain-past s L l many)
+
+pub setup-past-sixteen : SetupPastSixteen
+setup-past-sixteen q m v s l many none = omega (arith, many, count-most q m v s (length l) none)
 
 -- ---- what is not refused
 pub one-entry : OneEntry

@@ -1,4 +1,4 @@
--- Steps that the walks of this crate share: how a contract of two or three `ensures` is shown and heard, and the calls of `blank` and
+-- Steps that the walks share: how a contract of two `ensures` is shown and heard, and the calls of `blank`, `at_most_sixteen` and
 -- `exchange`, with the lent list lent again for the call. Assumes `Given`.
 use mathlib.Core.Path.{_≡_, refl, sym, ap, _∙_, subst}
 use Prim.Native.Nat.{ℕ, _<_, _^_, min}
@@ -51,18 +51,8 @@ module _ {M : Type 1} {𝓤 : URA M} {H : Heap 𝓤} {A : Atoms 𝓤} {K : Type 
   pub says2 : K → {φ ψ : Type 0} {P : SProp 𝓤} → φ → ψ → Step K W Γ (prop P) Γ (prop (sep 𝓤 P (sep 𝓤 (fact 𝓤 φ) (fact 𝓤 ψ))))
   says2 t {φ} {ψ} {P} x y = step (λ s. record { prf = via 𝓤 (sep 𝓤 (sep 𝓤 P (fact 𝓤 φ)) (fact 𝓤 ψ)) ((says t y $ says t x $ s) .prf) (assoc∗ 𝓤 P (fact 𝓤 φ) (fact 𝓤 ψ)) })
 
-  pub says3 : K → {φ ψ χ : Type 0} {P : SProp 𝓤} → φ → ψ → χ → Step K W Γ (prop P) Γ (prop (sep 𝓤 P (sep 𝓤 (fact 𝓤 φ) (sep 𝓤 (fact 𝓤 ψ) (fact 𝓤 χ)))))
-  says3 t {φ} {ψ} {χ} {P} x y z = step (λ s. record { prf = via 𝓤 (sep 𝓤 (sep 𝓤 P (fact 𝓤 φ)) (sep 𝓤 (fact 𝓤 ψ) (fact 𝓤 χ))) ((says2 t y z $ says t x $ s) .prf) (assoc∗ 𝓤 P (fact 𝓤 φ) (sep 𝓤 (fact 𝓤 ψ) (fact 𝓤 χ))) })
-
   pub heard2 : K → {G : Goal 𝓤 H} (φ ψ : Type 0) → (φ → ψ → Seq K W Γ G) → Seq K W (raw (sep 𝓤 (fact 𝓤 φ) (fact 𝓤 ψ)) ∷ Γ) G
   heard2 t φ ψ k = use1 W (raw (fact 𝓤 φ) ⊛ raw (fact 𝓤 ψ)) (id⊢ 𝓤 _) $ split t $ heard t φ (λ x. heard t ψ (λ y. k x y))
-
-  pub heard3 : K → {G : Goal 𝓤 H} (φ ψ χ : Type 0) → (φ → ψ → χ → Seq K W Γ G) → Seq K W (raw (sep 𝓤 (fact 𝓤 φ) (sep 𝓤 (fact 𝓤 ψ) (fact 𝓤 χ))) ∷ Γ) G
-  heard3 t φ ψ χ k = use1 W (raw (fact 𝓤 φ) ⊛ raw (sep 𝓤 (fact 𝓤 ψ) (fact 𝓤 χ))) (id⊢ 𝓤 _) $ split t $ heard t φ (λ x. heard2 t ψ χ (λ y z. k x y z))
-
--- the machine value of a slice: its pointer and its count
-abbrev pub sv : {X : Type 0} → RefT (List X) → Val
-sv x = sliceVal (x .ptr) (length (x .now))
 
 -- ---- the three callees
 module _ {M : Type 1} (𝓤 : URA M) (H : Heap 𝓤) (A : Atoms 𝓤) (at-mem : Memory → SProp 𝓤) (run : Routine → Fun 𝓤) where
@@ -118,7 +108,7 @@ abbrev pub into : List Rec → List Rec → List Rec
 into xs ys = front (shared ys) xs ys
 
 -- the `&κ mut [Rec]` x, at the list l with the count c
-abbrev held : Lifetime → Lft → RefT (List Rec) → List Rec → ℕ → Fml
+abbrev pub held : Lifetime → Lft → RefT (List Rec) → List Rec → ℕ → Fml
 held ℓ κ x l c = MutSlice ℓ κ R.the-row .own (at-last x l) (sliceVal (x .ptr) c ∷ [])
 
 module _ {M : Type 1} (𝓤 : URA M) (H : Heap 𝓤) (A : Atoms 𝓤) (W : Given 𝓤 H A) (at-mem : Memory → SProp 𝓤) (run : Routine → Fun 𝓤) (x : RefT (List Rec)) (ys xs : List Rec) where

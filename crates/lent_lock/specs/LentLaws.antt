@@ -73,6 +73,10 @@ PastSixteen =
     let refusal = cond (eqb k 0) unsound k in
     (runRefusal s L l ≡ refusal) × (drainRefusal s L l ≡ refusal)
 
+-- setup has no 10; where the lists have as many records as lengths, the threads are too many, which is 1
+abbrev pub SetupPastSixteen : Type 0
+SetupPastSixteen = (q : Pred) (m v : ℕ) (s : Lent) (l : List Rec) → mostThreads < length l → setupRefusal q m v s (length l) ≢ 0
+
 -- ---- what is not refused
 -- with room for a row, a step is the machine's step of that entry, its row at the start of the trace list
 abbrev pub OneEntry : Type 0

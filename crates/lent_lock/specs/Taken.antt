@@ -8,8 +8,6 @@ use Rattle.machine.specs.Run.{RunLeft}
 use Rattle.machine.specs.Drain.{DrainLeft}
 use Rattle.machine.specs.declared.Rec.{Rec}
 use Rattle.lock.specs.ByValue.{putBack}
-use Rattle.machine.specs.declared.Start.{Start}
-use Rattle.lock.specs.declared.setup.Begun.{Begun}
 use Rattle.lock.specs.declared.run.Ran.{Ran as RanByValue}
 use Rattle.lock.specs.declared.drain.Drained.{Drained as DrainedByValue}
 use Rattle.lent_lock.specs.Exchange.{front, shared}
@@ -27,9 +25,6 @@ abbrev pub back : List Rec → List Rec → List Rec
 back l array = front (shared l) array l
 
 -- ---- an answer with the records by value, the first n of them
-abbrev pub begunWith : ℕ → List Rec → Start → List Rec → Begun
-begunWith n recs start l = record { start = start; recs = putBack n recs l }
-
 abbrev pub ranApart : RanByValue → RanWith
 ranApart r = record { ran = record { refusal = r .refusal; n = r .n; done = r .done; lock = r .lock }; recs = r .recs }
 

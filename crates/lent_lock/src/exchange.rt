@@ -27,7 +27,7 @@ pub(crate) fn exchange(recs: &mut [Rec], with: [Rec; 16]) -> [Rec; 16]
     out
 }
 
-pub(crate) fn at_most_sixteen(n: usize) -> usize
+pub fn at_most_sixteen(n: usize) -> usize
     ensures { λ r. ⌜ r ≡ min n 16 ⌝ }
 {
     if n < MOST_THREADS { n } else { MOST_THREADS }

@@ -4,3 +4,5 @@ pub mod Kept
 pub mod Judged
 pub mod Laws
 pub mod Takes
+pub mod Edges
+pub mod Split

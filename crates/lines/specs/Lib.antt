@@ -5,3 +5,5 @@ pub mod Number
 pub mod Judge
 pub mod Held
 pub mod Laws
+pub mod Edges
+pub mod Split

@@ -42,7 +42,7 @@ fn scan_digits(s: &[u8]) -> Parsed
 }
 
 // v with the digit b after it.
-fn one_more(v: u64, b: u8) -> Parsed
+pub fn one_more(v: u64, b: u8) -> Parsed
     ensures { λ r. ⌜ r ≡ more v b ⌝ }
 {
     if b < b'0' {

@@ -3,7 +3,6 @@
 ghost use Prim.Native.Nat.{_+_, _-_, _<_, _≤_, _^_};
 ghost use mathlib.Core.Path.{_≡_};
 ghost use lib.ListN.{length, getD};
-ghost use Rattle.machine.specs.Words.{bit};
 ghost use Rattle.machine.specs.Step.{busyOf, rowOf};
 ghost use Rattle.lock.specs.Room.{Room};
 ghost use Rattle.lock.specs.Entered.{leftAlone, changed, enteredOf};
@@ -110,13 +109,7 @@ pub(crate) fn row_of(lock: Lock, thread: u64, access: u64, answer: u64, got: u64
         access,
         answer,
         got,
-        exc: bit(lock.exc),
+        exc: words::bit(lock.exc),
         rc: rc.0,
     }
-}
-
-fn bit(b: bool) -> u64
-    ensures { λ r. ⌜ r ≡ bit b ⌝ }
-{
-    if b { 1 } else { 0 }
 }

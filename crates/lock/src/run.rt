@@ -55,7 +55,7 @@ pub fn run(
         };
     }
     let room = (trace.len() / ROW) as u64;
-    let n = smaller(budget, smaller(schedule.len() as u64, room));
+    let n = words::smaller(budget, words::smaller(schedule.len() as u64, room));
     run_ready(lens, ops, vals, lock, recs, schedule, n, trace)
 }
 
@@ -162,7 +162,7 @@ fn starts_of(lens: &[u64], most: u64) -> [u64; 16]
     let mut t = 0;
     while t < lens.len() {
         starts[t] = sum;
-        sum += smaller(lens[t], most - sum);
+        sum += words::smaller(lens[t], most - sum);
         t += 1;
     }
     starts
@@ -198,10 +198,4 @@ fn none() -> Refusal
         thread: 0,
         place: 0,
     }
-}
-
-fn smaller(a: u64, b: u64) -> u64
-    ensures { λ r. ⌜ r ≡ min a b ⌝ }
-{
-    if a <= b { a } else { b }
 }

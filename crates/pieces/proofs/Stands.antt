@@ -43,7 +43,7 @@ module _ (s : Lent) (p : Standing) (entries out : List ℕ) (at : ℕ) where
   abbrev same : Printed
   same = record { standing = p; at = at }
 
-  there : at + rowBytes * length (piece entries) ≤ length out → refusalOf s p ≡ 0
+  pub there : at + rowBytes * length (piece entries) ≤ length out → refusalOf s p ≡ 0
       → (printedOf s p entries out at ≡ made) × (storedOf s p entries out at ≡ sets out at (textOf s p entries))
   unfolding printedOf storedOf ranPrinted ranStored
   there room none = rw (le-leb (at + rowBytes * length (piece entries)) (length out) room, none) (refl, refl)

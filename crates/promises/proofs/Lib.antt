@@ -1,7 +1,11 @@
 pub mod Outcome
 pub mod Rows
 pub mod Refusing
+pub mod Runs
+pub mod Drains
 pub mod Reached
 pub mod ByValue
 pub mod RunByValue
 pub mod Promises
+pub mod Accesses
+pub mod Answers

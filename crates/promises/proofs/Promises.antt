@@ -1,35 +1,37 @@
 -- The three demands, of what the functions of `lock` return.
-use Prim.Native.Nat.{ℕ, _≤_}
+use Prim.Native.Nat.{ℕ, _*_, _≤_}
 use mathlib.Core.Path.{_≡_, refl, sym, ap, _∙_}
 use mathlib.Core.Logic.{_≢_}
 use mathlib.Core.Bool.{Bool, true, false, cond}
+use mathlib.Core.List.{List, _++_}
 use native.Mathlib.Omega.{arith}
 use lib.Dec.{eqb}
-use lib.ListN.{length, take, drop}
-use lib.Seq.{length-take-le, take-at, drop-at}
+use lib.ListN.{length, take, drop, take-append-drop}
 use package.borrow.Author.Tests.{eqb-false}
 use Rattle.cell.specs.declared.pred.Pred.{Pred}
+use Rattle.machine.specs.Names.{rowWords}
 use Rattle.machine.specs.Words.{unused}
 use Rattle.machine.specs.Lists.{Lent, scriptsOf, beside}
 use Rattle.machine.specs.Setup.{fresh, setup, setupRefusal}
 use Rattle.machine.specs.Run.{Ran as Machine}
-use Rattle.machine.specs.Drain.{DrainLeft, drainLent}
 use Rattle.machine.specs.declared.Refusal.{Refusal}
 use Rattle.machine.specs.declared.Start.the-variants.{Made, Refused}
-use Rattle.machine.proofs.Ends.{drain-rule}
 use Rattle.machine.proofs.Exclusive.{demand-2a, demand-2b}
 use Rattle.machine.proofs.RunRule.{run-rule}
 use Rattle.machine.proofs.Value.{demand-2c}
-use Rattle.lock.specs.ByValue.{putBack, setupOf, drainRefusalOf, drainOf}
+use Rattle.lock.specs.ByValue.{putBack, setupOf}
+use Rattle.lock.specs.Run.{restOf}
 use Rattle.lock.specs.declared.drain.Drained.{Drained}
 use Rattle.lock.proofs.Refusing.{number-beside}
 use Rattle.lock.proofs.ByValue.{run-by-value}
-use Rattle.lock.proofs.Draining.{left-alone, drain-by-value}
-use Rattle.promises.specs.Promises.{RefusedSetup, RefusedRun, RefusedDrain, RefusedEntry, RunCounts, Demand2, Demand2ByValue, RunsGoOn, RunsGoOnByValue, Kept, Demand3, Demand3ByValue}
-use Rattle.promises.proofs.Refusing.{refusal-told}
+use Rattle.lock.proofs.Draining.{left-alone}
+use Rattle.promises.specs.Promises.{RefusedSetup, RefusedRun, RefusedRest, RefusedDrain, RefusedEntry, RunCounts, Demand2, Demand2ByValue, RunsGoOn, RunsGoOnByValue, RestGoesOnByValue, Kept, Demand3, Demand3ByValue, AfterDrain, AfterDrainByValue}
+use Rattle.promises.specs.Reached.{Reached, ReachedByValue}
+use Rattle.promises.proofs.Drains.{drain-over, over-by-value}
+use Rattle.promises.proofs.Refusing.{drain-told-by-value}
 use Rattle.promises.proofs.Reached.{Comes, admits, runs-on, drains, comes}
 use Rattle.promises.proofs.ByValue.{first-records}
-use Rattle.promises.proofs.RunByValue.{run-refused, run-counted, entry-refused}
+use Rattle.promises.proofs.RunByValue.{run-refused, run-is-run-by-value, entry-refused}
 
 -- ---- demand 1
 pub refused-setup : RefusedSetup
@@ -49,12 +51,16 @@ refused-setup s q m v count recs b why is refused = rw is (go (eqb k 0) refl (rw
 pub refused-run : RefusedRun
 refused-run = run-refused
 
+pub refused-rest : RefusedRest
+refused-rest s count L recs schedule budget used trace r trace′ is trace-is some =
+    let k = rowWords * used in
+    let list = restOf s count L recs schedule budget used trace .trace in
+    let (n, done, lock, records, room) = run-refused s count L recs schedule budget (drop k trace) r list is refl some in
+    (n, done, lock, records, trace-is ∙ ap (λ (t : List ℕ). take k trace ++ t) room ∙ take-append-drop k trace)
+
 pub refused-drain : RefusedDrain
-unfolding drainOf
 refused-drain s count L recs d is some =
-    let k = drainRefusalOf s count L (take count recs) in
-    let told : d .refusal ≡ beside s k = rw is (refusal-told (λ (x : DrainLeft). x .refusal) s k _ _ refl refl) in
-    let whole = is ∙ sym (left-alone s count L recs (d .refusal) told some) in
+    let whole = is ∙ sym (left-alone s count L recs (d .refusal) (drain-told-by-value s count L recs d is) some) in
     (ap (λ (x : Drained). x .n) whole, ap (λ (x : Drained). x .lock) whole, ap (λ (x : Drained). x .recs) whole)
 
 pub refused-entry : RefusedEntry
@@ -63,7 +69,8 @@ refused-entry = entry-refused
 -- ---- run's rule
 pub run-counts : RunCounts
 run-counts s count L recs schedule budget trace r trace′ is trace-is wide none =
-    run-counted s count L recs schedule budget trace r trace′ is trace-is none wide
+    let (a, others) = run-is-run-by-value s count L recs schedule budget trace r trace′ is trace-is wide none in
+    (a .entries, a .told, a .others, others)
 
 -- ---- demand 2
 kept : {s : Lent} {q : Pred} {m v : ℕ} {w : Machine} → Comes s q m v w → Kept s v (w .lock) (w .recs) (w .rows)
@@ -96,27 +103,26 @@ runs-go-on-by-value s q m v count L recs rows reached schedule budget trace r is
     rw (is, run-by-value s count L recs schedule budget trace (f .few) (f .wide))
     (runs-go-on s q m v L (take count recs) rows (f .reached) schedule budget trace _ refl)
 
+pub rest-goes-on-by-value : RestGoesOnByValue
+rest-goes-on-by-value s q m v count L recs rows reached schedule budget used trace =
+    runs-go-on-by-value s q m v count L recs rows reached schedule budget (drop (rowWords * used) trace)
+
 -- ---- demand 3
 pub demand3 : Demand3
-demand3 s q m v L l rows reached tidy left is =
-    let (refusal, n, lock, recs, sound, drained) = drain-rule s L l (drains s q m v (comes reached) tidy) in
-    rw (is, refusal, n, lock, recs)
-    (record {
-      accepted = number-beside s 0;
-      bounded = drained .bounded;
-      size = drained .size;
-      ended = drained .ended;
-      clear = drained .clear;
-      none-counted = drained .count;
-      full = drained .full;
-    })
+demand3 s q m v L l rows reached tidy left is = drain-over s L l left is (drains s q m v (comes reached) tidy)
 
 pub demand3-by-value : Demand3ByValue
 demand3-by-value s q m v count L recs rows reached tidy d is =
     let f = first-records reached in
-    let left = drainLent s L (take count recs) in
     let enough : count ≤ length recs = omega (arith, f .wide, f .few) in
-    let over = demand3 s q m v L (take count recs) rows (f .reached) tidy left refl in
-    let size : length (left .recs) ≡ count = over .size ∙ length-take-le count recs enough in
-    rw (is, drain-by-value s count L recs enough, take-at (left .recs) (drop count recs) count size)
-    (over, drop-at (left .recs) (drop count recs) count size)
+    over-by-value s count L recs enough d is (drains s q m v (comes (f .reached)) tidy)
+
+pub after-drain : AfterDrain
+after-drain s q m v L l rows reached left is over =
+    let there = Reached.drained reached left (over .entries) is (over .accepted) (over .order) in
+    (demand2 s q m v (left .lock) (left .recs) _ there, runs-go-on s q m v (left .lock) (left .recs) _ there)
+
+pub after-drain-by-value : AfterDrainByValue
+after-drain-by-value s q m v count L recs rows reached d is over =
+    let there = ReachedByValue.drained reached d (over .entries) is (over .accepted) (over .order) in
+    (demand2-by-value s q m v count (d .lock) (d .recs) _ there, runs-go-on-by-value s q m v count (d .lock) (d .recs) _ there)

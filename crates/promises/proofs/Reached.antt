@@ -1,24 +1,23 @@
 -- What the calls reach is what one schedule makes of one setup that refuses nothing; from there no run is refused, nor a drain of tidy
 -- scripts.
-use Prim.Native.Nat.{ℕ, _*_, _≤_}
+use Prim.Native.Nat.{ℕ, _≤_}
 use mathlib.Core.Path.{_≡_, refl, _∙_}
 use mathlib.Core.Bool.{Bool, true, false, cond}
 use mathlib.Core.List.{List, [], _++_}
 use native.Mathlib.Omega.{arith}
 use lib.Dec.{eqb}
-use lib.ListN.{length, drop, length-replicate}
+use lib.ListN.{length, length-replicate}
 use package.borrow.Author.Tests.{eqb-true}
 use Rattle.cell.specs.Pred.{permits}
 use Rattle.cell.specs.declared.pred.Pred.{Pred}
-use Rattle.machine.specs.Names.{rowWords}
 use Rattle.machine.specs.Words.{unbegun, unused}
 use Rattle.machine.specs.Refusals.{Nothing}
 use Rattle.machine.specs.Lists.{Lent, scriptsOf, beside}
 use Rattle.machine.specs.Sound.{Sound}
 use Rattle.machine.specs.Setup.{fresh, setup, setupRefusal, setupRecs}
-use Rattle.machine.specs.Run.{Ran, run, wordsOf, entries, runRefusal, RunLeft, madeRun, runLent}
+use Rattle.machine.specs.Run.{Ran, run, entries, runRefusal, RunLeft, madeRun, runLent}
 use Rattle.machine.specs.Tidy.{Tidy}
-use Rattle.machine.specs.Drain.{drainRefusal}
+use Rattle.machine.specs.Drain.{Order, drainRefusal, DrainLeft, drainLent}
 use Rattle.machine.specs.When.{AtSetup, AtRun, AtDrain}
 use Rattle.machine.specs.declared.Lock.{Lock}
 use Rattle.machine.specs.declared.Rec.{Rec}
@@ -30,7 +29,8 @@ use Rattle.machine.proofs.RunRule.{run-length, made as run-made}
 use Rattle.machine.proofs.Runs.{always-sound}
 use Rattle.machine.proofs.Setup.{admits as setup-admits, setup-is-sound}
 use Rattle.promises.specs.Reached.{rowsIn, Reached}
-use Rattle.promises.proofs.Rows.{rows-read-back, handled, row-each}
+use Rattle.promises.proofs.Rows.{handled, rows-told}
+use Rattle.promises.proofs.Drains.{order-run}
 
 -- a state with the rows so far
 abbrev pub ranAs : Lock → List Rec → List Row → Ran
@@ -65,7 +65,7 @@ module _ (s : Lent) (q : Pred) (m v : ℕ) where
     pub admits : (1 ≤ m) × (permits q v ≡ true)
     admits = setup-admits q m v s (c .records) (c .accepted)
 
-    sound-there : Sound (scriptsOf s) (w .lock) (w .recs)
+    pub sound-there : Sound (scriptsOf s) (w .lock) (w .recs)
     sound-there = rw (← c .is) (always-sound (scriptsOf s) q m v (c .records) (admits .0) (admits .1) (c .schedule))
 
     many : length (w .recs) ≡ c .records
@@ -88,6 +88,20 @@ module _ (s : Lent) (q : Pred) (m v : ℕ) where
         none k (AtDrain.as-run a) = no-refusal k a
         none k (AtDrain.not-tidy n) = n tidy
 
+    -- entries more, and their rows
+    joined : (es : List ℕ) → let after = run (scriptsOf s) (w .lock) (w .recs) es in Comes s q m v (ranAs (after .lock) (after .recs) (w .rows ++ after .rows))
+    joined es =
+        let (lock, recs, rows) = rw (c .is) at (cutting (scriptsOf s) (unused q m v) (fresh (c .records)) (c .schedule) es) in
+        record { records = c .records; schedule = c .schedule ++ es; accepted = c .accepted; is = λ j. ranAs (lock j) (recs j) (rows j) }
+
+    -- one drain more
+    pub drain-more : (left : DrainLeft) (es : List ℕ) → left ≡ drainLent s (w .lock) (w .recs) → left .refusal .number ≡ 0
+        → Order (scriptsOf s) (w .lock) (w .recs) es (left .lock) (left .recs)
+        → Comes s q m v (ranAs (left .lock) (left .recs) (w .rows ++ run (scriptsOf s) (w .lock) (w .recs) es .rows))
+    drain-more left es e none order =
+        let (lock, recs) = order-run s (w .lock) (w .recs) left es e none order in
+        rw (← lock, ← recs) (joined es)
+
     -- one run more: its rows are those in the trace list
     module _ (schedule : List ℕ) (budget : ℕ) (trace : List ℕ) where
       abbrev n : ℕ
@@ -105,19 +119,10 @@ module _ (s : Lent) (q : Pred) (m v : ℕ) where
       pub same-size : length (runLent s (w .lock) (w .recs) schedule budget trace .recs) ≡ length (w .recs)
       same-size = rw made (run-length (scriptsOf s) (w .lock) (w .recs) es)
 
-      rows-told : rowsIn n (wordsOf (after .rows) ++ drop (rowWords * n) trace) ≡ after .rows
-      rows-told = rw (row-each (scriptsOf s) (w .lock) (w .recs) schedule budget trace) at (rows-read-back (after .rows) (drop (rowWords * n) trace))
-
-      joined : run (scriptsOf s) (unused q m v) (fresh (c .records)) (c .schedule ++ es) ≡ ranAs (after .lock) (after .recs) (w .rows ++ after .rows)
-      joined =
-          let (lock, recs, rows) = rw (c .is) at (cutting (scriptsOf s) (unused q m v) (fresh (c .records)) (c .schedule) es) in
-          λ j. ranAs (lock j) (recs j) (rows j)
-
       pub one-more : (left : RunLeft) → left ≡ runLent s (w .lock) (w .recs) schedule budget trace
           → Comes s q m v (ranAs (left .lock) (left .recs) (w .rows ++ rowsIn (left .n) (left .trace)))
       one-more left e =
-          rw (e, made, rows-told)
-          (record { records = c .records; schedule = c .schedule ++ es; accepted = c .accepted; is = joined })
+          rw (e, made, rows-told (scriptsOf s) (w .lock) (w .recs) schedule budget trace) (joined es)
 
   at-setup : (l : List Rec) (L : Lock) → setup q m v s (length l) ≡ Made L → Comes s q m v (ranAs L (setupRecs q m v s l) [])
   unfolding run
@@ -128,3 +133,4 @@ module _ (s : Lent) (q : Pred) (m v : ℕ) where
 pub comes : {s : Lent} {q : Pred} {m v : ℕ} {L : Lock} {l : List Rec} {rows : List Row} → Reached s q m v L l rows → Comes s q m v (ranAs L l rows)
 comes {s} {q} {m} {v} (Reached.begun l L made) = at-setup s q m v l L made
 comes {s} {q} {m} {v} (Reached.ran before schedule budget trace left e) = one-more s q m v (comes before) schedule budget trace left e
+comes {s} {q} {m} {v} (Reached.drained before left es e none order) = drain-more s q m v (comes before) left es e none order

@@ -8,26 +8,26 @@ use mathlib.Core.List.{List, [], _∷_, _++_}
 use native.Mathlib.Omega.{arith}
 use lib.Dec.{eqb}
 use lib.ListN.{length, getD, take, drop, take-append-drop}
-use lib.Seq.{length-take-le, drop-at}
+use lib.Seq.{length-take-le, take-at, drop-at}
 use package.borrow.Author.Tests.{eqb-true, eqb-false, ne-eqb}
 use Rattle.machine.specs.Names.{noAccess, mostThreads, rowWords}
 use Rattle.machine.specs.Words.{bit}
 use Rattle.machine.specs.Lists.{Lent, scriptsOf, beside}
-use Rattle.machine.specs.Step.{Scripts, entryRefusal, rowOf}
-use Rattle.machine.specs.RunLaws.{zeroAnswers}
-use Rattle.machine.specs.Run.{Ran as Machine, run, accepted, wordsOf, entries, RunLeft, madeRun}
+use Rattle.machine.specs.Step.{Scripts, entryRefusal, rowOf, step}
+use Rattle.machine.specs.Run.{Ran as Machine, run, accepted, wordsOf, entries, madeRun}
 use Rattle.machine.specs.declared.Lock.{Lock}
 use Rattle.machine.specs.declared.Rec.{Rec}
-use Rattle.machine.specs.declared.Row.{Row}
-use Rattle.machine.proofs.Words.{words-length, zeros-accepted}
+use Rattle.machine.proofs.Words.{length-stays}
 use Rattle.machine.proofs.RunLaws.{run-one, refused-entry, row-says}
 use Rattle.machine.proofs.RunRule.{run-length}
 use Rattle.lock.specs.ByValue.{runRefusalOf, runOf}
-use Rattle.lock.specs.Run.{ranOf}
+use Rattle.lock.specs.Run.{ranOf, restOf, Ready}
 use Rattle.lock.specs.declared.run.Ran.{Ran}
 use Rattle.lock.proofs.Refusing.{none-refused, no-number, left}
-use Rattle.promises.proofs.Rows.{handled, row-each}
-use Rattle.promises.proofs.Refusing.{refusal-told}
+use Rattle.promises.specs.Runs.{IsRun, RunIsRunByValue, RestIsRunByValue}
+use Rattle.promises.proofs.Rows.{handled, row-each, rest-read-back}
+use Rattle.promises.proofs.Runs.{made-is-run}
+use Rattle.promises.proofs.Refusing.{run-told-by-value}
 use Rattle.promises.proofs.Reached.{ranAs}
 
 module _
@@ -43,8 +43,7 @@ module _
   after = run (scriptsOf s) L (take count recs) (handled schedule budget trace)
 
   refusal-is : r .refusal ≡ beside s k
-  unfolding runOf
-  refusal-is = rw is (refusal-told (λ (x : RunLeft). x .refusal) s k _ _ refl refl)
+  refusal-is = run-told-by-value s count L recs schedule budget trace r is
 
   pub run-refused : r .refusal .number ≢ 0 → (r .n ≡ 0) × (r .done ≡ 0) × (r .lock ≡ L) × (r .recs ≡ recs) × (trace′ ≡ trace)
   run-refused some =
@@ -62,37 +61,52 @@ module _
     unfolding runOf
     run-made = let zero = no-number s k (r .refusal) refusal-is none in (is ∙ rw zero, trace-is ∙ rw zero)
 
+    -- the count is the number of threads, and the state is sound
+    pub run-ready : (count ≡ length (s .lens)) × Ready s L recs
+    run-ready = none-refused s count L recs (no-number s k (r .refusal) refusal-is none)
+
     pub run-counted : length recs ≡ mostThreads
-        → (r .n ≡ n)
-        × (r .done ≡ zeroAnswers (r .n) trace′)
-        × (drop (rowWords * r .n) trace′ ≡ drop (rowWords * r .n) trace)
-        × (drop count (r .recs) ≡ drop count recs)
+        → IsRun s L (take count recs) schedule budget trace (r .n) (r .done) (r .lock) (take count (r .recs)) trace′ × (drop count (r .recs) ≡ drop count recs)
     run-counted wide =
         let (all, list) = run-made in
-        let (same, ready) = none-refused s count L recs (no-number s k (r .refusal) refusal-is none) in
+        let (same, ready) = run-ready in
         let enough : count ≤ length recs = omega (arith, ready .threads) in
-        let rows = after .rows in
-        let rest = drop (rowWords * n) trace in
-        let many : length rows ≡ n = row-each (scriptsOf s) L (take count recs) schedule budget trace in
-        let zeros : zeroAnswers n (wordsOf rows ++ rest) ≡ accepted rows = rw many at (zeros-accepted rows rest) in
         let size : length (after .recs) ≡ count =
         run-length (scriptsOf s) L (take count recs) (handled schedule budget trace) ∙ length-take-le count recs enough
         in
-        rw (all, list) (
-          refl,
-          sym zeros,
-          drop-at (wordsOf rows) rest (rowWords * n) (words-length rows n many),
-          drop-at (after .recs) (drop count recs) count size,
-        )
+        rw (all, list, take-at (after .recs) (drop count recs) count size)
+        (made-is-run s L (take count recs) schedule budget trace, drop-at (after .recs) (drop count recs) count size)
+
+pub run-is-run-by-value : RunIsRunByValue
+run-is-run-by-value s count L recs schedule budget trace r trace′ is trace-is wide none =
+    run-counted s count L recs schedule budget trace r trace′ is trace-is none wide
+
+pub rest-is-run-by-value : RestIsRunByValue
+rest-is-run-by-value s count L recs schedule budget used trace r trace′ is trace-is wide none =
+    let k = rowWords * used in
+    let room = drop k trace in
+    let n = entries budget schedule room in
+    let l = take count recs in
+    let list = restOf s count L recs schedule budget used trace .trace in
+    let (piece, others) = run-counted s count L recs schedule budget room r list is refl none wide in
+    let words = run-made s count L recs schedule budget room r list is refl none .1 in
+    let fits : rowWords * n ≤ length room = omega arith in
+    let rows = run (scriptsOf s) L l (handled schedule budget room) .rows in
+    let size = ap length words ∙ length-stays rows n (row-each (scriptsOf s) L l schedule budget room) room fits in
+    let (there, before) = rest-read-back k trace list size in
+    rw (trace-is, there) (piece, before, others)
 
 -- ---- a run of one entry
+-- it is that entry's step
+pub one-run : (S : Scripts) (L : Lock) (l : List Rec) (i : ℕ) → let x = step S L l i in run S L l (i ∷ []) ≡ ranAs (x .lock) (x .recs) (x .row ∷ [])
+one-run S L l i = let (lock, recs, rows) = run-one S L l i in λ j. ranAs (lock j) (recs j) (rows j)
+
 -- a refused entry's run, whole
 alone : (S : Scripts) (L : Lock) (l : List Rec) (i : ℕ) → entryRefusal S L l i ≢ 0
     → run S L l (i ∷ []) ≡ ranAs L l (rowOf i L noAccess (entryRefusal S L l i) 0 ∷ [])
 alone S L l i some =
-    let (lock, recs, rows) = run-one S L l i in
     let (same, stay, row) = refused-entry S L l i some in
-    λ j. ranAs ((lock ∙ same) j) ((recs ∙ stay) j) ((rows ∙ ap (λ (x : Row). x ∷ []) row) j)
+    one-run S L l i ∙ (λ j. ranAs (same j) (stay j) (row j ∷ []))
 
 -- its answer, read out of the trace list
 answer-told : (S : Scripts) (L : Lock) (l : List Rec) (i : ℕ) (rest : List ℕ) → getD (wordsOf (run S L l (i ∷ []) .rows) ++ rest) 2 0 ≡ entryRefusal S L l i
@@ -110,7 +124,7 @@ module _
   S = scriptsOf s
 
   -- a refused run handles none
-  not-refused : r .refusal .number ≡ 0
+  pub not-refused : r .refusal .number ≡ 0
   not-refused = go (eqb (r .refusal .number) 0) refl
     where
       go : (b : Bool) → eqb (r .refusal .number) 0 ≡ b → r .refusal .number ≡ 0
@@ -123,6 +137,9 @@ module _
       let n : entries budget (i ∷ []) trace ≡ 1 = sym (ap (λ (x : Ran). x .n) all) ∙ one in
       (rw n at all, rw n at list)
 
+  pub entry-answered : getD trace′ 2 0 ≡ entryRefusal S L l i
+  entry-answered = ap (λ (t : List ℕ). getD t 2 0) (entry-made .1) ∙ answer-told S L l i (drop rowWords trace)
+
   pub entry-refused : getD trace′ 2 0 ≢ 0
       → (r .lock ≡ L)
       × (r .recs ≡ recs)
@@ -131,6 +148,5 @@ module _
   unfolding wordsOf accepted
   entry-refused some =
       let (all, list) = entry-made in
-      let answer : getD trace′ 2 0 ≡ entryRefusal S L l i = ap (λ (t : List ℕ). getD t 2 0) list ∙ answer-told S L l i (drop rowWords trace) in
-      let refused : entryRefusal S L l i ≢ 0 = λ z. some (answer ∙ z) in
+      let refused : entryRefusal S L l i ≢ 0 = λ z. some (entry-answered ∙ z) in
       rw (all, list, alone S L l i refused, ne-eqb (entryRefusal S L l i) 0 refused) (refl, take-append-drop count recs, refl, refl)

@@ -1,3 +1,6 @@
 pub mod Outcome
 pub mod Reached
+pub mod Runs
 pub mod Promises
+pub mod Accesses
+pub mod Answers

@@ -3,7 +3,7 @@ use Prim.Native.Nat.{ℕ, _+_, _*_, _<_, _≤_, min, _/_}
 use mathlib.Core.Path.{_≡_}
 use mathlib.Core.Logic.{_≢_}
 use mathlib.Core.Bool.{true, false}
-use mathlib.Core.List.{List, [], _∷_, reverse}
+use mathlib.Core.List.{List, [], _∷_, _++_, reverse}
 use lib.ListN.{length, getD, take, drop}
 use Rattle.cell.specs.Value.{isFull}
 use Rattle.cell.specs.declared.pred.Pred.{Pred}
@@ -15,8 +15,9 @@ use Rattle.machine.specs.Sound.{tally}
 use Rattle.machine.specs.Tidy.{Tidy, bound}
 use Rattle.machine.specs.Trace.{Told}
 use Rattle.machine.specs.RunLaws.{zeroAnswers}
-use Rattle.machine.specs.Drain.{DrainLeft, drainLent}
-use Rattle.machine.specs.Run.{RunLeft, runLent}
+use Rattle.machine.specs.Drain.{Order, DrainLeft, drainLent}
+use Rattle.machine.specs.Ends.{AllAccepted}
+use Rattle.machine.specs.Run.{run, RunLeft, runLent}
 use Rattle.machine.specs.Demands.{Writer, Reader, SameWriter}
 use Rattle.machine.specs.declared.Lock.{Lock}
 use Rattle.machine.specs.declared.Rec.{Rec}
@@ -25,7 +26,7 @@ use Rattle.machine.specs.declared.Refusal.{Refusal}
 use Rattle.machine.specs.declared.Place.the-variants.{Idle}
 use Rattle.machine.specs.declared.Start.the-variants.{Refused}
 use Rattle.lock.specs.ByValue.{runOf, drainOf}
-use Rattle.lock.specs.Run.{ranOf}
+use Rattle.lock.specs.Run.{ranOf, restOf, restTrace}
 use Rattle.lock.specs.Setup.{begunOf}
 use Rattle.lock.specs.Drain.{drainedOf}
 use Rattle.lock.specs.declared.run.Ran.{Ran}
@@ -43,6 +44,13 @@ abbrev pub RefusedRun : Type 0
 RefusedRun =
     (s : Lent) (count : ℕ) (L : Lock) (recs : List Rec) (schedule : List ℕ) (budget : ℕ) (trace : List ℕ) (r : Ran) (trace′ : List ℕ)
     → r ≡ ranOf count recs (runOf s count L recs schedule budget trace) → trace′ ≡ runOf s count L recs schedule budget trace .trace
+    → r .refusal .number ≢ 0
+    → (r .n ≡ 0) × (r .done ≡ 0) × (r .lock ≡ L) × (r .recs ≡ recs) × (trace′ ≡ trace)
+
+abbrev pub RefusedRest : Type 0
+RefusedRest =
+    (s : Lent) (count : ℕ) (L : Lock) (recs : List Rec) (schedule : List ℕ) (budget used : ℕ) (trace : List ℕ) (r : Ran) (trace′ : List ℕ)
+    → r ≡ ranOf count recs (restOf s count L recs schedule budget used trace) → trace′ ≡ restTrace s count L recs schedule budget used trace
     → r .refusal .number ≢ 0
     → (r .n ≡ 0) × (r .done ≡ 0) × (r .lock ≡ L) × (r .recs ≡ recs) × (trace′ ≡ trace)
 
@@ -96,7 +104,7 @@ Demand2ByValue =
     (s : Lent) (q : Pred) (m v count : ℕ) (L : Lock) (recs : List Rec) (rows : List Row) → ReachedByValue s q m v count L recs rows
     → Kept s v L (take count recs) rows
 
--- and the next run with the same scripts is not refused
+-- and the next run or later piece with the same scripts is not refused
 abbrev pub RunsGoOn : Type 0
 RunsGoOn =
     (s : Lent) (q : Pred) (m v : ℕ) (L : Lock) (l : List Rec) (rows : List Row) → Reached s q m v L l rows
@@ -108,10 +116,25 @@ RunsGoOnByValue =
     → (schedule : List ℕ) (budget : ℕ) (trace : List ℕ) (r : Ran) → r ≡ ranOf count recs (runOf s count L recs schedule budget trace)
     → r .refusal .number ≡ 0
 
--- ---- demand 3: what a drain from the tidy state L, l leaves
+abbrev pub RestGoesOnByValue : Type 0
+RestGoesOnByValue =
+    (s : Lent) (q : Pred) (m v count : ℕ) (L : Lock) (recs : List Rec) (rows : List Row) → ReachedByValue s q m v count L recs rows
+    → (schedule : List ℕ) (budget used : ℕ) (trace : List ℕ) (r : Ran) → r ≡ ranOf count recs (restOf s count L recs schedule budget used trace)
+    → r .refusal .number ≡ 0
+
+-- ---- demand 3: what a drain from the state L, l leaves
 pub record Over (s : Lent) (L : Lock) (l : List Rec) (why : Refusal) (n : ℕ) (L′ : Lock) (l′ : List Rec) : Type 0 where
   -- none of 5, 6, 7, 10, 17
   pub accepted : why .number ≡ 0
+  -- the entries that were made, n of them, are the drain order; no other entries are, and no other state is left by it
+  pub entries : List ℕ
+  pub used : n ≡ length entries
+  pub order : Order (scriptsOf s) L l entries L′ l′
+  pub only : (es : List ℕ) (M : Lock) (m : List Rec) → Order (scriptsOf s) L l es M m → (es ≡ entries) × (M ≡ L′) × (m ≡ l′)
+  -- a run of them refuses none and leaves the same
+  pub none-refused : AllAccepted (run (scriptsOf s) L l entries .rows)
+  pub same-lock : run (scriptsOf s) L l entries .lock ≡ L′
+  pub same-recs : run (scriptsOf s) L l entries .recs ≡ l′
   pub bounded : n ≤ bound (scriptsOf s) l
   pub size : length l′ ≡ length l
   pub ended : (j : ℕ) → j < length l → (here l′ j .place ≡ Idle) × (here l′ j .at ≡ scriptsOf s .len j)
@@ -119,6 +142,24 @@ pub record Over (s : Lent) (L : Lock) (l : List Rec) (why : Refusal) (n : ℕ) (
   pub none-counted : L′ .rc .0 ≡ 0
   pub full : isFull (L′ .cell) ≡ true
 
+-- of the first `count` records of the array; the others stay
+abbrev pub OverByValue : Lent → ℕ → Lock → List Rec → Drained → Type 0
+OverByValue s count L recs d =
+    Over s L (take count recs) (d .refusal) (d .n) (d .lock) (take count (d .recs)) × (drop count (d .recs) ≡ drop count recs)
+
+-- whatever the state, a drain that is not refused leaves that
+abbrev pub AcceptedDrain : Type 0
+AcceptedDrain =
+    (s : Lent) (L : Lock) (l : List Rec) (left : DrainLeft) → left ≡ drainLent s L l → left .refusal .number ≡ 0
+    → Over s L l (left .refusal) (left .n) (left .lock) (left .recs)
+
+abbrev pub AcceptedDrainByValue : Type 0
+AcceptedDrainByValue =
+    (s : Lent) (count : ℕ) (L : Lock) (recs : List Rec) (d : Drained) → d ≡ drainedOf count recs (drainOf s count L recs) → length recs ≡ mostThreads
+    → d .refusal .number ≡ 0
+    → OverByValue s count L recs d
+
+-- and it is not refused from a tidy state that calls reach
 abbrev pub Demand3 : Type 0
 Demand3 =
     (s : Lent) (q : Pred) (m v : ℕ) (L : Lock) (l : List Rec) (rows : List Row) → Reached s q m v L l rows → Tidy (scriptsOf s) L l
@@ -129,4 +170,23 @@ abbrev pub Demand3ByValue : Type 0
 Demand3ByValue =
     (s : Lent) (q : Pred) (m v count : ℕ) (L : Lock) (recs : List Rec) (rows : List Row) → ReachedByValue s q m v count L recs rows
     → Tidy (scriptsOf s) L (take count recs) → (d : Drained) → d ≡ drainedOf count recs (drainOf s count L recs)
-    → Over s L (take count recs) (d .refusal) (d .n) (d .lock) (take count (d .recs)) × (drop count (d .recs) ≡ drop count recs)
+    → OverByValue s count L recs d
+
+-- After a drain demand 2 holds, with the rows of its entries after the others, and no run with the same scripts is refused.
+abbrev pub AfterDrain : Type 0
+AfterDrain =
+    (s : Lent) (q : Pred) (m v : ℕ) (L : Lock) (l : List Rec) (rows : List Row) → Reached s q m v L l rows
+    → (left : DrainLeft) → left ≡ drainLent s L l → (over : Over s L l (left .refusal) (left .n) (left .lock) (left .recs))
+    → Kept s v (left .lock) (left .recs) (rows ++ run (scriptsOf s) L l (over .entries) .rows)
+    × ((schedule : List ℕ) (budget : ℕ) (trace : List ℕ) (next : RunLeft) → next ≡ runLent s (left .lock) (left .recs) schedule budget trace
+    → next .refusal .number ≡ 0)
+
+abbrev pub AfterDrainByValue : Type 0
+AfterDrainByValue =
+    (s : Lent) (q : Pred) (m v count : ℕ) (L : Lock) (recs : List Rec) (rows : List Row) → ReachedByValue s q m v count L recs rows
+    → (d : Drained) → d ≡ drainedOf count recs (drainOf s count L recs)
+    → let l = take count recs in
+    (over : Over s L l (d .refusal) (d .n) (d .lock) (take count (d .recs)))
+    → Kept s v (d .lock) (take count (d .recs)) (rows ++ run (scriptsOf s) L l (over .entries) .rows)
+    × ((schedule : List ℕ) (budget : ℕ) (trace : List ℕ) (r : Ran) → r ≡ ranOf count (d .recs) (runOf s count (d .lock) (d .recs) schedule budget trace)
+    → r .refusal .number ≡ 0)

@@ -14,7 +14,7 @@ use Rattle.lines.specs.Judge.{equal, clean, fields as split, kinds, judge}
 use Rattle.scenario.specs.Scenario.{taken}
 use Rattle.scenario.specs.Refused.{refusalOf}
 use Rattle.scenario.specs.Printed.{next, ended, rowsText, output, printed}
-use Rattle.scenario.specs.Cases.{CaseA, NoLastBreak, NoRunLine, NoOpLine, RowsStand, WrongForm, Longest, WrongNumber, WrongHeader, WrongOrder, Missing, AtThePred, AtTheOp, TooLong, Cases}
+use Rattle.scenario.specs.Cases.{CaseA, NoLastBreak, NoRunLine, NoOpLine, RowsStand, WrongForm, TwoReturns, FirstLine, Longest, WrongNumber, WrongHeader, WrongOrder, Missing, AtThePred, NoneAtThePred, AtTheOp, TooLong, TooLongAndWrong, NoneAtTheOp, Cases}
 
 case-a : CaseA
 unfolding permits good ofKind lowest act fits sum entryRefusal answer step total find setupRefusal run digitsTo text fields lastField header rowText refusal lines across digits plainly decimal number equal clean split kinds judge taken refusalOf next ended rowsText output printed
@@ -40,6 +40,14 @@ wrong-form : WrongForm
 unfolding permits good ofKind lowest act fits sum entryRefusal answer step total find setupRefusal run digitsTo text fields lastField header rowText refusal lines across digits plainly decimal number equal clean split kinds judge taken refusalOf next ended rowsText output printed
 wrong-form = (refl, refl, refl, refl, refl, refl, refl, refl)
 
+two-returns : TwoReturns
+unfolding permits good ofKind lowest act fits sum entryRefusal answer step total find setupRefusal run digitsTo text fields lastField header rowText refusal lines across digits plainly decimal number equal clean split kinds judge taken refusalOf next ended rowsText output printed
+two-returns = (refl, refl)
+
+first-line : FirstLine
+unfolding permits good ofKind lowest act fits sum entryRefusal answer step total find setupRefusal run digitsTo text fields lastField header rowText refusal lines across digits plainly decimal number equal clean split kinds judge taken refusalOf next ended rowsText output printed
+first-line = (refl, refl, refl, refl)
+
 longest : Longest
 unfolding permits good ofKind lowest act fits sum entryRefusal answer step total find setupRefusal run digitsTo text fields lastField header rowText refusal lines across digits plainly decimal number equal clean split kinds judge taken refusalOf next ended rowsText output printed
 longest = (refl, refl, refl, refl)
@@ -64,6 +72,10 @@ at-the-pred : AtThePred
 unfolding permits good ofKind lowest act fits sum entryRefusal answer step total find setupRefusal run digitsTo text fields lastField header rowText refusal lines across digits plainly decimal number equal clean split kinds judge taken refusalOf next ended rowsText output printed
 at-the-pred = (refl, refl, refl, refl, refl, refl, refl)
 
+none-at-the-pred : NoneAtThePred
+unfolding permits good ofKind lowest act fits sum entryRefusal answer step total find setupRefusal run digitsTo text fields lastField header rowText refusal lines across digits plainly decimal number equal clean split kinds judge taken refusalOf next ended rowsText output printed
+none-at-the-pred = (refl, refl, refl, refl, refl)
+
 at-the-op : AtTheOp
 unfolding permits good ofKind lowest act fits sum entryRefusal answer step total find setupRefusal run digitsTo text fields lastField header rowText refusal lines across digits plainly decimal number equal clean split kinds judge taken refusalOf next ended rowsText output printed
 at-the-op = (refl, refl, refl, refl)
@@ -72,5 +84,13 @@ too-long : TooLong
 unfolding permits good ofKind lowest act fits sum entryRefusal answer step total find setupRefusal run digitsTo text fields lastField header rowText refusal lines across digits plainly decimal number equal clean split kinds judge taken refusalOf next ended rowsText output printed
 too-long = (refl, refl)
 
+too-long-and-wrong : TooLongAndWrong
+unfolding permits good ofKind lowest act fits sum entryRefusal answer step total find setupRefusal run digitsTo text fields lastField header rowText refusal lines across digits plainly decimal number equal clean split kinds judge taken refusalOf next ended rowsText output printed
+too-long-and-wrong = (refl, refl)
+
+none-at-the-op : NoneAtTheOp
+unfolding permits good ofKind lowest act fits sum entryRefusal answer step total find setupRefusal run digitsTo text fields lastField header rowText refusal lines across digits plainly decimal number equal clean split kinds judge taken refusalOf next ended rowsText output printed
+none-at-the-op = (refl, refl, refl)
+
 pub cases : Cases
-cases = (case-a, no-last-break, no-run-line, no-op-line, rows-stand, wrong-form, longest, wrong-number, wrong-header, wrong-order, missing, at-the-pred, at-the-op, too-long)
+cases = (case-a, no-last-break, no-run-line, no-op-line, rows-stand, wrong-form, two-returns, first-line, longest, wrong-number, wrong-header, wrong-order, missing, at-the-pred, none-at-the-pred, at-the-op, too-long, too-long-and-wrong, none-at-the-op)

@@ -4,19 +4,17 @@ use mathlib.Core.Bool.{Bool, true, false, _||_, not, cond, false≢true}
 use mathlib.Core.Path.{_≡_, refl, sym, _∙_}
 use mathlib.Core.List.{List, [], _∷_}
 use native.Mathlib.Omega.{arith}
-use borrow.Author.Tests.{le-ltb, ltb-false, eq-eqb, eqb-true, ne-eqb}
+use borrow.Author.Tests.{lt-ltb, le-ltb, ltb-false, eqb-true, ne-eqb}
 use lib.Dec.{eqb, ltb, leb}
-use lib.ListN.{length, getD, replicate, length-set, length-replicate}
+use lib.ListN.{length, getD, length-set}
 use lib.Seq.{getD-set-other}
-use Rattle.cell.specs.Pred.{good}
+use Rattle.cell.specs.Pred.{permits, good}
 use Rattle.cell.specs.declared.pred.Pred.{Pred}
-use Rattle.cell.specs.declared.pred.Pred.the-variants.{Parity}
-use Rattle.cell.proofs.PredLaws.{parity-good, kinds}
 use Rattle.machine.specs.Names.{threadCount, topIsZero, badPredicate, firstValue, mostThreads, longestScript}
 use Rattle.machine.specs.Refusals.{Check, gives, lowest}
-use Rattle.machine.specs.Lists.{Lent, lists, total, scriptsOf, wrong, wrongPlace, listChecks}
+use Rattle.machine.specs.Lists.{Lent, wrong, listChecks}
 use Rattle.machine.specs.Setup.{setupChecks, setupRefusal}
-use Rattle.machine.proofs.Refusals.{passed, not-so}
+use Rattle.machine.proofs.Refusals.{passed}
 use Rattle.scenario.specs.Scenario.{Scenario, lentWith, withOp, taken}
 use Rattle.lines.specs.Lines.{lines, across}
 use Rattle.lines.specs.Judge.{judge}
@@ -26,8 +24,9 @@ use Rattle.scenario.specs.declared.Stage.the-variants.{Ops as AtOps}
 use Rattle.scenario.specs.Printed.{Reading, afterLine, next, start}
 use Rattle.scenario.specs.Refused.{stageNo, at, misplaced, asked, setupNumber, refusalOf}
 use Rattle.scenario.specs.Setup.{AtPredLine, UnknownKind, Accepted, AtOpLine, KeepsAccepted, AlwaysAccepted}
-use Rattle.scenario.proofs.Adds.{total-none, none-there}
-use Rattle.scenario.proofs.OpAdded.{finds-none, fine, answers}
+use Rattle.scenario.proofs.Adds.{none-there}
+use Rattle.scenario.proofs.OpAdded.{fine, answers}
+use Rattle.scenario.proofs.PredLine.{of-pred, of-line}
 
 first-four : {a b c d : Bool} (more : List Check) → a ≡ false → b ≡ false → c ≡ false → d ≡ false
     → lowest (gives threadCount a ∷ gives topIsZero b ∷ gives badPredicate c ∷ gives firstValue d ∷ more) ≡ lowest more
@@ -50,53 +49,22 @@ at-op-line s t code value a h g =
     ∙ answers l (s .threads) f t code value (omega (arith, f .counted)) (λ i k. a .later i (omega arith))
     (leb longestScript (getD (l .lens) t 0)) (wrong code value) refl refl
 
--- ---- the pred line: no script has an operation
-abbrev empty : ℕ → Lent
-empty n = lists (replicate n 0) [] []
-
-empty-passes : (n : ℕ) → lowest (listChecks (empty n) n) ≡ 0
-unfolding lowest
-empty-passes n =
-    let short = finds-none (λ i. ltb longestScript (getD (empty n .lens) i 0)) (length (empty n .lens)) (λ i h. rw (none-there n i)) in
-    let sums = eq-eqb (length (empty n .ops)) (total (empty n .lens)) (sym (total-none n)) in
-    let records = eq-eqb n (length (empty n .lens)) (sym (length-replicate n 0)) in
-    let right =
-    finds-none (λ i. ltb (wrongPlace (scriptsOf (empty n)) i) (scriptsOf (empty n) .len i)) (length (empty n .lens))
-    (λ i h. le-ltb (wrongPlace (scriptsOf (empty n)) i) (scriptsOf (empty n) .len i) (omega (arith, none-there n i))) in
-    rw (short, sums, records, right)
-
-at-most : (a b c d : Bool) (more : List Check) → lowest more ≡ 0
-    → lowest (gives threadCount a ∷ gives topIsZero b ∷ gives badPredicate c ∷ gives firstValue d ∷ more) ≤ firstValue
-unfolding lowest
-at-most true b c d more e = omega arith
-at-most false true c d more e = omega arith
-at-most false false true d more e = omega arith
-at-most false false false true more e = omega arith
-at-most false false false false more e = omega arith
+-- ---- the pred line
+at-most : (a b fine permitted : Bool) → cond a threadCount (cond b topIsZero (cond fine (cond permitted 0 firstValue) badPredicate)) ≤ firstValue
+at-most true b fine permitted = omega arith
+at-most false true fine permitted = omega arith
+at-most false false false permitted = omega arith
+at-most false false true false = omega arith
+at-most false false true true = omega arith
 
 pub at-pred-line : AtPredLine
-unfolding setupRefusal
-at-pred-line s q = at-most _ _ _ _ (listChecks (empty (s .threads)) (s .threads)) (empty-passes (s .threads))
-
--- ---- an unknown kind
-third-applies : {a b c : Bool} (more : List Check) → a ≡ false → b ≡ false → c ≡ true
-    → lowest (gives threadCount a ∷ gives topIsZero b ∷ gives badPredicate c ∷ more) ≡ badPredicate
-unfolding lowest
-third-applies more a b c = rw (a, b, c)
-
-bad-parity : not (good (Parity 2)) ≡ true
-bad-parity = rw (not-so (good (Parity 2)) (λ e. let h = parity-good 2 .0 e in omega arith))
+at-pred-line s q =
+    rw (of-pred s q) (at-most (eqb (s .threads) 0 || ltb mostThreads (s .threads)) (eqb (s .top) 0) (good q) (permits q (s .first)))
 
 pub unknown-kind : UnknownKind
-unfolding taken setupRefusal
 unknown-kind s kind a b k some few top =
-    rw (kinds a b .3 kind k)
-    (let n : ℕ = length (empty (s .threads) .lens) in
-    let e : n ≡ s .threads = length-replicate (s .threads) 0 in
-    third-applies _
-    (rw (ne-eqb n 0 (λ z. omega arith), le-ltb mostThreads n (omega arith)))
-    (ne-eqb (s .top) 0 (λ z. omega arith))
-    bad-parity)
+    of-line s kind a b
+    ∙ rw (ne-eqb (s .threads) 0 (λ z. omega arith), le-ltb mostThreads (s .threads) few, ne-eqb (s .top) 0 (λ z. omega arith), lt-ltb 2 kind k)
 
 -- ---- whatever is read is accepted
 abbrev Kept : Scenario → Type 0

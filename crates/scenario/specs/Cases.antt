@@ -62,6 +62,18 @@ WrongForm =
     × Prints (bytes "kind,a,b,c\r") ("refused,31,1" ∷ [])
     × Prints (bytes "kind,a,b,c\nlock,3,5,1\n") ("refused,31,1" ∷ [])
 
+-- CR CR LF is a CR in its line and a break, on line 1 and after it
+abbrev pub TwoReturns : Type 0
+TwoReturns = Prints (bytes "kind,a,b,c\r\r\n") ("refused,31,1" ∷ []) × Second "lock,3,5,1\r" "refused,31,2"
+
+-- on line 1 too 31 comes before 32: without four fields a line is no header by its form
+abbrev pub FirstLine : Type 0
+FirstLine =
+    Prints (file ("kind,a,b" ∷ [])) ("refused,31,1" ∷ [])
+    × Prints (file ("kind,a,b,c,d" ∷ [])) ("refused,31,1" ∷ [])
+    × Prints (file ("" ∷ [])) ("refused,31,1" ∷ [])
+    × Prints (file ("kind,a,b," ∷ [])) ("refused,32,1" ∷ [])
+
 -- 80 bytes before the break are allowed, 81 are not
 abbrev pub long : ℕ → List ℕ
 long n = replicate n 107 ++ bytes ",1,2,3"
@@ -123,6 +135,18 @@ AtThePred =
     × Opened "lock,3,6,1" "pred,1,5,13" "refused,4,3"
     × Opened "lock,3,5,1" "pred,2,0,0" "refused,4,3"
 
+-- the last that is accepted: all of 64 bits as M, 16 threads, each kind, each end of its parameters
+abbrev pub AcceptedPred : String → String → Type 0
+AcceptedPred lock pred = Prints (file ("kind,a,b,c" ∷ lock ∷ pred ∷ [])) []
+
+abbrev pub NoneAtThePred : Type 0
+NoneAtThePred =
+    AcceptedPred "lock,18446744073709551615,5,16" "pred,1,5,13"
+    × AcceptedPred "lock,1,13,1" "pred,1,5,13"
+    × AcceptedPred "lock,1,18446744073709551615,1" "pred,0,2,2"
+    × AcceptedPred "lock,1,5,1" "pred,2,1,2"
+    × AcceptedPred "lock,1,0,1" "pred,2,0,0"
+
 abbrev pub AtTheOp : Type 0
 AtTheOp =
     Fourth "op,0,8,0" "refused,7,4"
@@ -136,6 +160,19 @@ TooLong =
     Prints (file (opening ++ replicate 64 "op,0,2,0")) []
     × Prints (file (opening ++ replicate 65 "op,0,2,0")) ("refused,5,68" ∷ [])
 
+-- 5 comes before 7: the 65th has a wrong code, or a value beside a code that takes none
+abbrev pub TooLongAndWrong : Type 0
+TooLongAndWrong =
+    Prints (file (opening ++ (replicate 64 "op,0,2,0" ++ ("op,0,8,0" ∷ [])))) ("refused,5,68" ∷ [])
+    × Prints (file (opening ++ (replicate 64 "op,0,2,0" ++ ("op,0,4,5" ∷ [])))) ("refused,5,68" ∷ [])
+
+-- the largest value, the last code, and the last of 16 threads
+abbrev pub NoneAtTheOp : Type 0
+NoneAtTheOp =
+    Prints (file (opening ++ ("op,0,5,18446744073709551615" ∷ "op,0,1,0" ∷ "op,0,7,0" ∷ []))) []
+    × Prints (file ("kind,a,b,c" ∷ "lock,3,5,16" ∷ "pred,1,5,13" ∷ "op,15,1,0" ∷ [])) []
+    × Prints (file ("kind,a,b,c" ∷ "lock,3,5,16" ∷ "pred,1,5,13" ∷ "op,16,1,0" ∷ [])) ("refused,32,4" ∷ [])
+
 -- ---- the one statement
 abbrev pub Cases : Type 0
 Cases =
@@ -145,11 +182,16 @@ Cases =
     × NoOpLine
     × RowsStand
     × WrongForm
+    × TwoReturns
+    × FirstLine
     × Longest
     × WrongNumber
     × WrongHeader
     × WrongOrder
     × Missing
     × AtThePred
+    × NoneAtThePred
     × AtTheOp
     × TooLong
+    × TooLongAndWrong
+    × NoneAtTheOp

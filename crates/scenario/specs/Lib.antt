@@ -2,6 +2,7 @@ pub mod Names
 pub mod Scenario
 pub mod Refused
 pub mod Printed
+pub mod PredLine
 pub mod Setup
 pub mod ByBytes
 pub mod Pieces

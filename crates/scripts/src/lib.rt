@@ -8,22 +8,12 @@ ghost use Rattle.machine.specs.Refusals.{lowest};
 ghost use Rattle.machine.specs.Lists.{lists, total, start, wrong, longThread, listChecks, beside};
 ghost use Rattle.scripts.specs.Checks.{fit, codeCheck, placeFrom};
 use machine::Refusal;
-
-// The refusals.
-const SCRIPT_TOO_LONG: u64 = 5;
-
-const WRONG_LENGTHS: u64 = 6;
-
-const WRONG_CODE: u64 = 7;
-
-// The most operations of a script.
-const LONGEST: u64 = 64;
-
-// Codes go from 1 to this one.
-const LAST_CODE: u64 = 7;
-
-// The one code that takes a value.
-const RELEASE_WRITE: u64 = 5;
+use words::names::INTO_INNER;
+use words::names::LONGEST_SCRIPT;
+use words::names::RELEASE_WRITE;
+use words::names::SCRIPT_TOO_LONG;
+use words::names::WRONG_CODE;
+use words::names::WRONG_LENGTHS;
 
 // What is wrong with the lists or with the number of records: the lowest refusal, 0 if there is none. Each check is made only after those
 // before it have passed, so that the scripts which the last one reads lie inside the lists.
@@ -53,7 +43,7 @@ pub fn refused(lens: &[u64], ops: &[u64], vals: &[u64], records: u64) -> Refusal
 pub fn start_of(lens: &[u64], i: u64, most: u64) -> u64
     ensures { λ r. ⌜ r ≡ min (start (now (lens .entry)) i) most ⌝ }
 {
-    let end = smaller(i, lens.len() as u64);
+    let end = words::smaller(i, lens.len() as u64);
     let mut sum = 0;
     let mut t = 0;
     while t < end {
@@ -96,7 +86,7 @@ fn long_thread(lens: &[u64]) -> u64
 {
     let mut t = 0;
     while t < lens.len() {
-        if LONGEST < lens[t] {
+        if LONGEST_SCRIPT < lens[t] {
             return t as u64;
         }
         t += 1;
@@ -176,17 +166,12 @@ pub fn is_wrong(o: u64, v: u64) -> bool
     if o == 0 {
         return true;
     }
-    if LAST_CODE < o {
+    // The codes go from 1 to that of into_inner.
+    if INTO_INNER < o {
         return true;
     }
     if o == RELEASE_WRITE {
         return false;
     }
     v != 0
-}
-
-fn smaller(a: u64, b: u64) -> u64
-    ensures { λ r. ⌜ r ≡ min a b ⌝ }
-{
-    if a <= b { a } else { b }
 }

@@ -22,22 +22,17 @@ use lock::setup;
 use machine::Place;
 use machine::Start;
 use scenario::Stage;
+use words::names::LONGEST_SCRIPT;
 use words::names::MOST_THREADS;
 use words::names::NONE;
+use words::names::SCRIPT_TOO_LONG;
 use words::names::THREAD_COUNT;
+use words::names::WRONG_CODE;
 
 // The refusals that no other crate gives.
 const BROKEN_LINE: u64 = 31;
 
 const WRONG_LINE: u64 = 32;
-
-// Setup's refusals at an op line.
-const SCRIPT_TOO_LONG: u64 = 5;
-
-const WRONG_CODE: u64 = 7;
-
-// The most operations of a script.
-const LONGEST: u64 = 64;
 
 // What is read so far, besides the lists of operations.
 pub struct Read {
@@ -267,7 +262,7 @@ fn op_refusal(r: Read, t: u64, code: u64, value: u64, n: u64) -> u64
     if t < r.thread {
         return WRONG_LINE;
     }
-    if LONGEST <= n {
+    if LONGEST_SCRIPT <= n {
         return SCRIPT_TOO_LONG;
     }
     if scripts::is_wrong(code, value) {

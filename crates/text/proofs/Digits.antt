@@ -20,14 +20,17 @@ one-more : (k v : ℕ) → digitsTo (suc k) v ≡ cond (ltb v 10) ((48 + v) ∷ 
 unfolding digitsTo
 one-more k v = refl
 
+-- a tenth of a number has a digit less
+pub tenth : (k v : ℕ) → v < 10 ^ suc (suc k) → v / 10 < 10 ^ suc k
+tenth k v h =
+    let g : v < 10 ^ suc k * 10 = rw pow-suc at h in
+    div-lt-iff-lt-mul {k = 10} {x = v} {y = 10 ^ suc k} (omega arith) .1 g
+
 -- what is below ten to the k has k digits at most, so that one more is not asked for
 enough : (k v : ℕ) → v < 10 ^ suc k → digitsTo (suc (suc k)) v ≡ digitsTo (suc k) v
 enough zero v h = rw (one-more 1 v, one-more 0 v, lt-ltb v 10 h)
 enough (suc k) v h =
-    let g : v < 10 ^ suc k * 10 = rw pow-suc at h in
-    one-more (suc (suc k)) v
-    ∙ by-test (suc k) v (ltb v 10) (λ e. enough k (v / 10) (div-lt-iff-lt-mul (omega arith) .1 g))
-    ∙ sym (one-more (suc k) v)
+    one-more (suc (suc k)) v ∙ by-test (suc k) v (ltb v 10) (λ e. enough k (v / 10) (tenth k v h)) ∙ sym (one-more (suc k) v)
 
 pub text-one : (v : ℕ) → v < 10 → text v ≡ (48 + v) ∷ []
 unfolding text digitsTo

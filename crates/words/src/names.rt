@@ -68,6 +68,12 @@ pub const BAD_PREDICATE: u64 = 3;
 
 pub const FIRST_VALUE: u64 = 4;
 
+pub const SCRIPT_TOO_LONG: u64 = 5;
+
+pub const WRONG_LENGTHS: u64 = 6;
+
+pub const WRONG_CODE: u64 = 7;
+
 pub const UNSOUND: u64 = 10;
 
 pub const NO_THREAD: u64 = 11;
@@ -77,3 +83,6 @@ pub const UNTIDY: u64 = 17;
 pub const NO_ACCESS: u64 = 0;
 
 pub const MOST_THREADS: u64 = 16;
+
+// The most operations of a script.
+pub const LONGEST_SCRIPT: u64 = 64;

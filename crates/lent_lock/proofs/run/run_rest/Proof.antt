@@ -1,199 +1,29 @@
--- `run_rest` meets its contract: a walk of its MIR, by hand. The records are exchanged for blank ones, `rest_taken` is called, and the records that it
--- left are put back; the trace is given up to the call, and of the other lists a copy is passed. Assumes nothing.
-use Rattle.lent_lock.proofs.Kit.{_≡_, refl, ap, _∙_, ℕ, _*_, _<_, _^_, [], _∷_, List, _++_, length, take, drop-list, URA, fullShare, named, w64, Val, vint, SProp, ent, emp, via, fst∗, id⊢, fat, Memory, Routine, Heap, Calls, Loops, WpFn, Tables, Atoms, Fun, Lfts, Shares, givenOf, tables, tablesOf, Given, Item, cut, ‵, raw, _⊛_, ⋆, _$_, _∵_, !, qed, by, move, keep, use1, split, pick, rewrite, fsplit, feqL, suffices, await, look, init, forget, stop, hop, fld, from, load, addr, of-opd, and-then, no-more, assigns, land, returns, enter, alloc1, alloc0, params1, pass1, pass0, free1, free0, agg, whole, sub, look-in, FmC, fmOf, WpFn-mono, Is, shows, uint-vals, uint-tells, uint-makes, u64, RefT, slice-vals, mut-slice-tells, shr-slice-tells, shr-slice-copy, ShrSlice, Room, plain, only, owned, peeks, Contract, Triple, calls-at, Lasts, Args, Vals, onEntry, Meets, tripleOf, entered, cited, Stays, stay-none, stay-none-slice, stay-slice, gave-slice, walkOf, AllGo, goes-none, goes-none-slice, goes-slice, goes-gave-slice, Walks, ends-at, walked, walk-meets, yes}
-use denote.Struct.Laws as LL
+-- `run_rest` meets its contract: it takes the records out, calls `rest_taken`, and puts back what that leaves, which is what a later piece over the list leaves.
+-- Assumes nothing.
+use Prim.Native.Nat.{ℕ, _*_}
+use mathlib.Core.List.{List, _++_}
+use mathlib.Core.Path.{refl, ap, _∙_}
+use lib.ListN.{take, drop}
 use Rattle.machine.specs.Names.{rowWords}
-use Rattle.machine.specs.Setup.{fresh}
-use Rattle.machine.specs.Lists.{Lent, lists}
-use Rattle.machine.specs.Run.{RunLeft}
-use Rattle.machine.specs.declared.Lock.{Lock}
-use Rattle.machine.specs.declared.Rec.{Rec}
-use Rattle.machine.proofs.Rec as R
-use Rattle.machine.proofs.Lock as K
-use Rattle.machine.proofs.Lock.Laws as K′
-use Rattle.lock.specs.Run.{restOf}
-use Rattle.lent_lock.specs.Run.{ranOf, restLent, restLentTrace}
-use Rattle.lent_lock.specs.Taken.{taken, back, ranWith}
-use Rattle.lent_lock.specs.declared.run.Ran.{Ran}
-use Rattle.lent_lock.specs.declared.run.RanWith.{RanWith}
-use Rattle.lent_lock.proofs.AnyLength.{emptied, emptied-length, put-again, put-length, run-any-length}
-use Rattle.lent_lock.proofs.Left.{ran-left, ran-answer, ran-recs}
-use Rattle.lent_lock.proofs.run.Ran as N
-use Rattle.lent_lock.proofs.run.Ran.Laws as N′
-use Rattle.lent_lock.proofs.run.RanWith as D
-use Rattle.lent_lock.proofs.run.RanWith.Laws as D′
-use Rattle.lent_lock.proofs.Records.{Sixteen, aval, a-length, a-lawful, a-makes}
-use Rattle.lent_lock.proofs.Frames.{atEntry, opens, asks, atEnd, closes, gives, Returned, returned}
-use Rattle.lent_lock.proofs.Walks.{says3, heard2, sv, Blank, Exchange, blanks, exchanges, out, into}
-use Rattle.lent_lock.proofs.exchange.blank.Symbol as blank-def
-use Rattle.lent_lock.proofs.exchange.blank.Symbol.{name as #blank}
-use Rattle.lent_lock.proofs.exchange.blank.Met as blank-thm
-use Rattle.lent_lock.proofs.exchange.exchange.Symbol as exchange-def
-use Rattle.lent_lock.proofs.exchange.exchange.Symbol.{name as #exchange}
-use Rattle.lent_lock.proofs.exchange.exchange.Met as exchange-thm
-use Rattle.lent_lock.proofs.run.rest_taken.Symbol as callee-def
-use Rattle.lent_lock.proofs.run.rest_taken.Symbol.{name as #callee}
-use Rattle.lent_lock.proofs.run.rest_taken.Met as callee-thm
+use Rattle.machine.specs.Lists.{lists}
+use Rattle.lent_lock.proofs.AnyLength.{run-any-length}
+use Rattle.lent_lock.proofs.Answers.{ran-with}
+use Rattle.lent_lock.proofs.Facts.{two-three, put-as-left}
+use Rattle.lent_lock.proofs.Lent.{proved}
+use Rattle.lent_lock.proofs.Shapes.{of-rest}
 use Rattle.lent_lock.proofs.run.rest_taken as g
-use Rattle.lent_lock.proofs.run.run_rest.Key.{name as #run-rest}
+use Rattle.lent_lock.proofs.run.rest_taken.Met.{met}
 use Rattle.lent_lock.proofs.run.run_rest as f
-use Rattle.lent_lock.proofs.run.run_rest.Statement as stated
 use Rattle.lent_lock.proofs.run.run_rest.Code as code
+use Rattle.lent_lock.proofs.run.run_rest.Key.{name}
+use Rattle.lent_lock.proofs.run.run_rest.Statement.{statement}
 
-abbrev stayed : Stays (f.ended .signature .params) (f.ended .kept)
-stayed = (stay-none-slice (0 ∷ []) tt (plain (λ _. u64)) yes, (stay-none-slice (1 ∷ []) tt (plain (λ _. u64)) yes, (stay-none-slice (2 ∷ []) tt (plain (λ _. u64)) yes, (stay-none (λ _. K.the-row) yes, (stay-slice (3 ∷ []) tt (plain (λ _. R.the-row)), (stay-none-slice (4 ∷ []) tt (plain (λ _. u64)) yes, (stay-none (λ _. u64) yes, (stay-none (λ _. u64) yes, (gave-slice (5 ∷ []) tt (plain (λ _. u64)), tt)))))))))
-
--- the machine values of a lock and of the answer
-abbrev kval : Lock → Val
-kval = LL.val K.the-type K′.the-laws
-
-abbrev nval : Ran → Val
-nval = LL.val N.the-type N′.the-laws
-
-module _ {M : Type 1} (𝓤 : URA M) (H : Heap 𝓤) (A : Atoms 𝓤) (at-mem : Memory → SProp 𝓤) (run : Routine → Fun 𝓤) where
-  abbrev Callee : Contract 𝓤
-  Callee = tripleOf 𝓤 H A g.signature (g.spec 𝓤 H A at-mem run)
-
-module _ {M : Type 1} (𝓤 : URA M) (H : Heap 𝓤) (A : Atoms 𝓤) (W : Given 𝓤 H A) (at-mem : Memory → SProp 𝓤) (run : Routine → Fun 𝓤) (κs : Lfts 6) (qs : Shares 6)
-    (lens ops vals : RefT (List ℕ)) (lk : Lock) (recs : RefT (List Rec)) (schedule : RefT (List ℕ)) (budget used : ℕ) (trace : RefT (List ℕ))
-    (lens-room : Room u64 (length (lens .now))) (ops-room : Room u64 (length (ops .now))) (vals-room : Room u64 (length (vals .now))) (lk-is : Is K.the-row lk (kval lk ∷ [])) (recs-room : Room R.the-row (length (recs .now))) (schedule-room : Room u64 (length (schedule .now))) (budget-fits : budget < 2 ^ 64) (used-fits : used < 2 ^ 64) (trace-room : Room u64 (length (trace .now))) where
-  abbrev a : Args f.signature κs
-  a = (lens, (ops, (vals, (lk, (recs, (schedule, (budget, (used, (trace, tt)))))))))
-
-  abbrev vss : Vals f.signature κs
-  vss = (sv lens ∷ [], (sv ops ∷ [], (sv vals ∷ [], (kval lk ∷ [], (sv recs ∷ [], (sv schedule ∷ [], (vint w64 budget ∷ [], (vint w64 used ∷ [], (sv trace ∷ [], tt)))))))))
-
-  abbrev Post : Val → SProp 𝓤
-  Post = walkOf 𝓤 H A f.ended stayed (f.clauses 𝓤 H A at-mem run) .post ((κs, qs, tt, a, vss), tt)
-
-  -- what the callee leaves, and what is promised
-  abbrev s : Lent
-  s = lists (lens .now) (ops .now) (vals .now)
-
-  abbrev left : RunLeft
-  left = restOf s (length (recs .now)) lk (taken (recs .now)) (schedule .now) budget used (trace .now)
-
-  abbrev made : RunLeft
-  made = restLent s lk (recs .now) (schedule .now) budget used (trace .now)
-
-  abbrev Left : RanWith → Type 0
-  Left r = r ≡ ranWith (length (recs .now)) (taken (recs .now)) left
-
-  abbrev Traced : List ℕ → Type 0
-  Traced us = us ≡ take (rowWords * used) (trace .now) ++ left .trace
-
-  answered : (r : RanWith) → Left r → r .ran ≡ ranOf made
-  answered r e = ap (λ (z : RanWith). z .ran) e ∙ run-any-length s lk (recs .now) (schedule .now) budget (drop-list (rowWords * used) (trace .now)) .0
-
-  put-back : (r : RanWith) → Left r → into (r .recs) (emptied (recs .now)) ≡ made .recs
-  put-back r e = put-again (recs .now) (r .recs) ∙ ap (λ (z : RanWith). back (recs .now) (z .recs)) e ∙ run-any-length s lk (recs .now) (schedule .now) budget (drop-list (rowWords * used) (trace .now)) .1
-
-  traced : (us : List ℕ) → Traced us → us ≡ restLentTrace s lk (recs .now) (schedule .now) budget used (trace .now)
-  traced us e = e ∙ ap (λ (l : List ℕ). take (rowWords * used) (trace .now) ++ l) (run-any-length s lk (recs .now) (schedule .now) budget (drop-list (rowWords * used) (trace .now)) .2)
-
-  -- how it ends: the lent lists, and the items at exit
-  abbrev last : RanWith → List ℕ → Lasts f.ended κs a
-  last r us = (tt, (tt, (tt, (tt, (into (r .recs) (emptied (recs .now)), (tt, (tt, (tt, (us, tt)))))))))
-
-  abbrev Had : RanWith → List ℕ → List (Item 𝓤)
-  Had r us = atEnd 𝓤 H A f.ended stayed κs qs a vss (last r us) (nval (r .ran)) (r .ran)
-
-  exits : (r : RanWith) (us : List ℕ) → Left r → Traced us → length us ≡ length (trace .now) → length (r .recs) ≡ 16 → ent 𝓤 (⋆ 𝓤 H A (Had r us)) (Post (nval (r .ran)))
-  exits r us e et same sixteen =
-      qed W (Had r us) ∵
-      suffices ! _ (ends-at 𝓤 H A f.ended stayed (f.clauses 𝓤 H A at-mem run) W ((κs, qs, tt, a, vss), tt) (nval (r .ran)) (r .ran) (last r us) (tt, (tt, (tt, (tt, (put-length (recs .now) (r .recs) sixteen, (tt, (tt, (tt, (same, tt)))))))))) $
-      says3 ! (answered r e) (put-back r e) (traced us et) $ by ! (closes 𝓤 H A f.ended stayed κs qs a vss (last r us) (nval (r .ran)) (r .ran))
-
-  -- the call: what its triple binds outside, what it asks, and what it gives
-  abbrev to-call : Callee 𝓤 H A at-mem run .Ghost
-  to-call = (((κs .0, (κs .1 .0, (κs .1 .1 .0, (κs .1 .1 .1 .1 .0, (κs .1 .1 .1 .1 .1 .0, tt))))), (qs .0, (qs .1 .0, (qs .1 .1 .0, (qs .1 .1 .1 .1 .0, (qs .1 .1 .1 .1 .1 .0, tt))))), tt, (lens, (ops, (vals, (lk, (taken (recs .now), (length (recs .now), (schedule, (budget, (used, (trace, tt)))))))))), (sv lens ∷ [], (sv ops ∷ [], (sv vals ∷ [], (kval lk ∷ [], (aval (taken (recs .now)) ∷ [], (vint w64 (length (recs .now)) ∷ [], (sv schedule ∷ [], (vint w64 budget ∷ [], (vint w64 used ∷ [], (sv trace ∷ [], tt))))))))))), tt)
-
-  abbrev Asked : List (Item 𝓤)
-  Asked = atEntry 𝓤 H A g.signature (to-call .0 .0) (to-call .0 .1) (to-call .0 .3) (to-call .0 .4)
-
-  asked : ent 𝓤 (⋆ 𝓤 H A Asked) (Callee 𝓤 H A at-mem run .pre to-call)
-  asked = asks 𝓤 H A g.signature (to-call .0 .0) (to-call .0 .1) (to-call .0 .3) (to-call .0 .4)
-
-  abbrev Gives : Val → RanWith → Lasts g.ended (to-call .0 .0) (to-call .0 .3) → List (Item 𝓤)
-  Gives = gives 𝓤 H A W g.ended (g.clauses 𝓤 H A at-mem run) to-call
-
-  module _ (C : Calls 𝓤 H) (Λ : Loops 𝓤 H) (fm : FmC 𝓤 H (W .laws) C) (known-blank : Triple 𝓤 (C #blank) (Blank 𝓤 H A at-mem run))
-      (known-exchange : Triple 𝓤 (C #exchange) (Exchange 𝓤 H A at-mem run)) (known : Triple 𝓤 (C #callee) (Callee 𝓤 H A at-mem run)) where
-    walk : ent 𝓤 (onEntry 𝓤 H A f.signature κs qs a vss) (WpFn 𝓤 H C Λ code.function (sv lens ∷ sv ops ∷ sv vals ∷ kval lk ∷ sv recs ∷ sv schedule ∷ vint w64 budget ∷ vint w64 used ∷ sv trace ∷ []) Post)
-    walk =
-        qed W (raw (onEntry 𝓤 H A f.signature κs qs a vss) ∷ []) ∵ cut (raw (onEntry 𝓤 H A f.signature κs qs a vss) ∷ []) (atEntry 𝓤 H A f.signature κs qs a vss) [] (opens 𝓤 H A f.signature κs qs a vss) $
-        enter ! C Λ code.function (sv lens ∷ sv ops ∷ sv vals ∷ kval lk ∷ sv recs ∷ sv schedule ∷ vint w64 budget ∷ vint w64 used ∷ sv trace ∷ []) _ $
-        alloc1 ! (λ l₀. alloc1 ! (λ l₁. alloc1 ! (λ l₂. alloc1 ! (λ l₃. alloc1 ! (λ l₄. alloc1 ! (λ l₅. alloc1 ! (λ l₆. alloc1 ! (λ l₇. alloc1 ! (λ l₈. alloc1 ! (λ l₉. alloc1 ! (λ l₁₀. alloc1 ! (λ l₁₁. alloc1 ! (λ l₁₂. alloc1 ! (λ l₁₃. alloc1 ! (λ l₁₄. alloc1 ! (λ l₁₅. alloc1 ! (λ l₁₆. alloc1 ! (λ l₁₇. alloc1 ! (λ l₁₈. alloc1 ! (λ l₁₉. alloc1 ! (λ l₂₀. alloc1 ! (λ l₂₁. alloc0 ! $ params1 ! $
-        pass1 ! (init ! 40 refl (tt, (tt, (record { fits = lens-room .0 }, tt)))) $ pass1 ! (init ! 38 refl (tt, (tt, (record { fits = ops-room .0 }, tt)))) $
-        pass1 ! (init ! 36 refl (tt, (tt, (record { fits = vals-room .0 }, tt)))) $ pass1 ! (init ! 34 refl (LL.lawful K.the-type K′.the-laws 𝓤 H A W .typed lk _ lk-is .0)) $
-        pass1 ! (init ! 32 refl (tt, (tt, (record { fits = recs-room .0 }, tt)))) $ pass1 ! (init ! 30 refl (tt, (tt, (record { fits = schedule-room .0 }, tt)))) $
-        pass1 ! (init ! 28 refl (tt, record { fits = budget-fits })) $ pass1 ! (init ! 26 refl (tt, record { fits = used-fits })) $
-        pass1 ! (init ! 24 refl (tt, (tt, (record { fits = trace-room .0 }, tt)))) $ pass0 ! $
-        -- the records are taken out
-        blanks ! at-mem run fm known-blank (λ b-is. land ! (from ! (stop !)) (init ! 22 refl (a-lawful 𝓤 H A W .typed (fresh 16) _ b-is .0)) $
-        assigns ! (addr ! (from ! (fld ! refl (hop ! (look-in ! 32 (sub ! 0 refl (whole !))) (stop !))))) (from ! (stop !)) (init ! 16 refl (tt, tt)) $
-        assigns ! (agg ! (and-then ! (load ! (from ! (stop !)) (look ! 16 refl)) (and-then ! (load ! (from ! (fld ! refl (stop !))) (look-in ! 32 (sub ! 1 refl (whole !)))) (no-more !)))) (from ! (stop !)) (init ! 14 refl (tt, (tt, (record { fits = recs-room .0 }, tt)))) $
-        move ! (54 ∷ 47 ∷ []) $ exchanges ! at-mem run fm known-exchange (κs .1 .1 .1 .0) (qs .1 .1 .1 .0) (named 3) recs (recs .now) (fresh 16) (length (recs .now)) refl recs-room b-is
-        (λ i j. and-then ! (load ! (from ! (stop !)) (look ! 16 refl)) (and-then ! (load ! (from ! (stop !)) (look ! 24 refl)) (no-more !))) (λ is.
-        land ! (from ! (stop !)) (init ! 22 refl (a-lawful 𝓤 H A W .typed (taken (recs .now)) _ is .0)) $
-        assigns ! (of-opd ! (load ! (from ! (fld ! refl (stop !))) (look-in ! 34 (sub ! 1 refl (whole !))))) (from ! (stop !)) (init ! 14 refl (tt, record { fits = recs-room .0 })) $
-        assigns ! (of-opd ! (load ! (from ! (stop !)) (look ! 14 refl))) (from ! (stop !)) (init ! 12 refl (tt, record { fits = recs-room .0 })) $
-        assigns ! (addr ! (from ! (fld ! refl (hop ! (look-in ! 26 (sub ! 0 refl (whole !))) (stop !))))) (from ! (stop !)) (init ! 10 refl (tt, tt)) $
-        assigns ! (agg ! (and-then ! (load ! (from ! (stop !)) (look ! 10 refl)) (and-then ! (load ! (from ! (fld ! refl (stop !))) (look-in ! 26 (sub ! 1 refl (whole !)))) (no-more !)))) (from ! (stop !)) (init ! 8 refl (tt, (tt, (record { fits = trace-room .0 }, tt)))) $
-        -- `rest_taken` is called
-        owned ! u64 (Is u64) (uint-makes 𝓤 H A W w64) used _ (refl, used-fits) $ owned ! u64 (Is u64) (uint-makes 𝓤 H A W w64) budget _ (refl, budget-fits) $ move ! (57 ∷ []) $
-        use1 W (‵ (ShrSlice (named 4) (κs .1 .1 .1 .1 .0) u64 .own schedule (sv schedule ∷ [])) ⊛ ‵ (ShrSlice (named 4) (κs .1 .1 .1 .1 .0) u64 .own schedule (sv schedule ∷ []))) (shr-slice-copy 𝓤 H A W (named 4) (κs .1 .1 .1 .1 .0) u64 .twice schedule (sv schedule ∷ [])) $ split ! $
-        owned ! K.the-row (Is K.the-row) (LL.makes K.the-type K′.the-plain 𝓤 H A) lk _ lk-is $ move ! (58 ∷ []) $
-        use1 W (‵ (ShrSlice (named 2) (κs .1 .1 .0) u64 .own vals (sv vals ∷ [])) ⊛ ‵ (ShrSlice (named 2) (κs .1 .1 .0) u64 .own vals (sv vals ∷ []))) (shr-slice-copy 𝓤 H A W (named 2) (κs .1 .1 .0) u64 .twice vals (sv vals ∷ [])) $ split ! $
-        move ! (59 ∷ []) $
-        use1 W (‵ (ShrSlice (named 1) (κs .1 .0) u64 .own ops (sv ops ∷ [])) ⊛ ‵ (ShrSlice (named 1) (κs .1 .0) u64 .own ops (sv ops ∷ []))) (shr-slice-copy 𝓤 H A W (named 1) (κs .1 .0) u64 .twice ops (sv ops ∷ [])) $ split ! $
-        move ! (60 ∷ []) $
-        use1 W (‵ (ShrSlice (named 0) (κs .0) u64 .own lens (sv lens ∷ [])) ⊛ ‵ (ShrSlice (named 0) (κs .0) u64 .own lens (sv lens ∷ []))) (shr-slice-copy 𝓤 H A W (named 0) (κs .0) u64 .twice lens (sv lens ∷ [])) $ split ! $
-        owned ! Sixteen (Is Sixteen) (a-makes 𝓤 H A W) (taken (recs .now)) _ is $ owned ! u64 (Is u64) (uint-makes 𝓤 H A W w64) (length (recs .now)) _ (refl, recs-room .0) $
-        move ! (59 ∷ 60 ∷ 61 ∷ 62 ∷ 63 ∷ 3 ∷ 5 ∷ 7 ∷ 8 ∷ 1 ∷ 0 ∷ 10 ∷ 11 ∷ 12 ∷ 67 ∷ []) $ cut Asked (raw (Callee 𝓤 H A at-mem run .pre to-call) ∷ []) _ asked $
-        calls-at ! fm (Callee 𝓤 H A at-mem run) known to-call (and-then ! (load ! (from ! (stop !)) (look ! 47 refl)) (and-then ! (load ! (from ! (stop !)) (look ! 45 refl)) (and-then ! (load ! (from ! (stop !)) (look ! 43 refl)) (and-then ! (load ! (from ! (stop !)) (look ! 41 refl)) (and-then ! (load ! (from ! (stop !)) (look ! 27 refl)) (and-then ! (load ! (from ! (stop !)) (look ! 17 refl)) (and-then ! (load ! (from ! (stop !)) (look ! 37 refl)) (and-then ! (load ! (from ! (stop !)) (look ! 35 refl)) (and-then ! (load ! (from ! (stop !)) (look ! 33 refl)) (and-then ! (load ! (from ! (stop !)) (look ! 13 refl)) (no-more !))))))))))) (λ v.
-        use1 W (Returned 𝓤 H A W g.ended (g.clauses 𝓤 H A at-mem run) to-call v) (returned 𝓤 H A W g.ended (g.clauses 𝓤 H A at-mem run) to-call v) $ await ! tt $ pick ! (λ r. pick ! (λ ws.
-        cut (raw (⋆ 𝓤 H A (Gives v r ws)) ∷ []) (Gives v r ws) _ (id⊢ 𝓤 _) $ move ! (6 ∷ []) $ heard2 ! (Left r) (Traced (ws .1 .1 .1 .1 .1 .1 .1 .1 .1 .0)) (λ e et. move ! (15 ∷ []) $
-        fsplit ! $ move ! (1 ∷ []) $ feqL ! (λ same. move ! (6 ∷ []) $ peeks ! D.the-row (Is D.the-row) (shows 𝓤 H A D.the-row) r (v ∷ []) (λ r-is.
-        land ! (from ! (stop !)) (init ! 40 refl (LL.lawful D.the-type D′.the-laws 𝓤 H A W .typed r _ r-is .0)) $
-        rewrite ! 40 (λ (u : Val). ‵ (fat fullShare D′.mir l₁₂ 0 u)) (ap only (LL.tells D.the-type D′.the-laws r _ r-is) ∙ ran-left r) refl $
-        -- the records are put back
-        assigns ! (addr ! (from ! (fld ! refl (hop ! (look-in ! 54 (sub ! 0 refl (whole !))) (stop !))))) (from ! (stop !)) (init ! 24 refl (tt, tt)) $
-        assigns ! (agg ! (and-then ! (load ! (from ! (stop !)) (look ! 24 refl)) (and-then ! (load ! (from ! (fld ! refl (stop !))) (look-in ! 54 (sub ! 1 refl (whole !)))) (no-more !)))) (from ! (stop !)) (init ! 22 refl (tt, (tt, (record { fits = recs-room .0 }, tt)))) $
-        move ! (20 ∷ 21 ∷ []) $
-        exchanges ! at-mem run fm known-exchange (κs .1 .1 .1 .0) (qs .1 .1 .1 .0) (named 3) recs (emptied (recs .now)) (r .recs) (length (recs .now)) (emptied-length (recs .now)) recs-room (ran-recs r _ r-is)
-        (λ i j. and-then ! (load ! (from ! (stop !)) (look ! 22 refl)) (and-then ! (load ! (from ! (fld ! refl (stop !))) (look-in ! 40 (sub ! 1 refl (whole !)))) (no-more !))) (λ z-is.
-        land ! (from ! (stop !)) (init ! 26 refl (a-lawful 𝓤 H A W .typed (out (emptied (recs .now)) (r .recs)) _ z-is .0)) $
-        assigns ! (of-opd ! (load ! (from ! (fld ! refl (stop !))) (look-in ! 40 (sub ! 0 refl (whole !))))) (from ! (stop !)) (init ! 64 refl (LL.lawful N.the-type N′.the-laws 𝓤 H A W .typed (r .ran) _ (ran-answer r _ r-is) .0)) $
-        returns ! (look ! 64 refl) $
-        forget ! 64 refl $ forget ! 62 refl $ forget ! 60 refl $ forget ! 58 refl $ forget ! 56 refl $ forget ! 54 refl $ forget ! 52 refl $ forget ! 50 refl $ forget ! 48 refl $ forget ! 46 refl $ forget ! 44 refl $ forget ! 42 refl $ forget ! 40 refl $ forget ! 38 refl $ forget ! 36 refl $ forget ! 34 refl $ forget ! 32 refl $ forget ! 30 refl $ forget ! 28 refl $ forget ! 26 refl $ forget ! 24 refl $ forget ! 22 refl $
-        move ! (64 ∷ 65 ∷ []) $ free1 ! $ move ! (62 ∷ 63 ∷ []) $ free1 ! $ move ! (60 ∷ 61 ∷ []) $ free1 ! $ move ! (58 ∷ 59 ∷ []) $ free1 ! $ move ! (56 ∷ 57 ∷ []) $ free1 ! $ move ! (54 ∷ 55 ∷ []) $ free1 ! $ move ! (52 ∷ 53 ∷ []) $ free1 ! $ move ! (50 ∷ 51 ∷ []) $ free1 ! $ move ! (48 ∷ 49 ∷ []) $ free1 ! $ move ! (46 ∷ 47 ∷ []) $ free1 ! $ move ! (44 ∷ 45 ∷ []) $ free1 ! $ move ! (42 ∷ 43 ∷ []) $ free1 ! $ move ! (40 ∷ 41 ∷ []) $ free1 ! $ move ! (38 ∷ 39 ∷ []) $ free1 ! $ move ! (36 ∷ 37 ∷ []) $ free1 ! $ move ! (34 ∷ 35 ∷ []) $ free1 ! $ move ! (32 ∷ 33 ∷ []) $ free1 ! $ move ! (30 ∷ 31 ∷ []) $ free1 ! $ move ! (28 ∷ 29 ∷ []) $ free1 ! $ move ! (26 ∷ 27 ∷ []) $ free1 ! $ move ! (24 ∷ 25 ∷ []) $ free1 ! $ move ! (22 ∷ 23 ∷ []) $ free1 ! $ free0 ! $
-        owned ! N.the-row (Is N.the-row) (LL.makes N.the-type N′.the-plain 𝓤 H A) (r .ran) _ (ran-answer r _ r-is) $
-        keep ! (5 ∷ 6 ∷ 7 ∷ 2 ∷ 8 ∷ 9 ∷ 19 ∷ 20 ∷ 21 ∷ 23 ∷ 1 ∷ 22 ∷ 24 ∷ 25 ∷ 4 ∷ 0 ∷ []) $
-        by ! (exits r (ws .1 .1 .1 .1 .1 .1 .1 .1 .1 .0) e et same (a-length (r .recs) _ (ran-recs r _ r-is))))))))))))))))))))))))))))))))))
-
-module _ {M : Type 1} (𝓤 : URA M) (H : Heap 𝓤) (A : Atoms 𝓤) (W : Given 𝓤 H A) (at-mem : Memory → SProp 𝓤) (run : Routine → Fun 𝓤) where
-  f-walks : (C : Calls 𝓤 H) (Λ : Loops 𝓤 H) → FmC 𝓤 H (W .laws) C → Triple 𝓤 (C #blank) (Blank 𝓤 H A at-mem run) → Triple 𝓤 (C #exchange) (Exchange 𝓤 H A at-mem run) → Triple 𝓤 (C #callee) (Callee 𝓤 H A at-mem run)
-      → Walks 𝓤 H A f.ended stayed (WpFn 𝓤 H C Λ code.function) (f.clauses 𝓤 H A at-mem run)
-  f-walks C Λ fm known-blank known-exchange known = walked 𝓤 H A f.ended stayed (f.clauses 𝓤 H A at-mem run) (WpFn 𝓤 H C Λ code.function)
-      (λ κs. (slice-vals, (slice-vals, (slice-vals, (LL.vals K.the-type K′.the-laws, (slice-vals, (slice-vals, (uint-vals w64, (uint-vals w64, (slice-vals, tt))))))))))
-      (λ κs. (shr-slice-tells (named 0) (κs .0) u64, (shr-slice-tells (named 1) (κs .1 .0) u64, (shr-slice-tells (named 2) (κs .1 .1 .0) u64, (LL.tells K.the-type K′.the-laws, (mut-slice-tells (named 3) (κs .1 .1 .1 .0) R.the-row, (shr-slice-tells (named 4) (κs .1 .1 .1 .1 .0) u64, (uint-tells w64, (uint-tells w64, (mut-slice-tells (named 5) (κs .1 .1 .1 .1 .1 .0) u64, tt))))))))))
-      (λ κs qs bounds a _ are. via 𝓤 _ (fst∗ 𝓤 _ (emp 𝓤)) (walk 𝓤 H A W at-mem run κs qs (a .0) (a .1 .0) (a .1 .1 .0) (a .1 .1 .1 .0) (a .1 .1 .1 .1 .0) (a .1 .1 .1 .1 .1 .0) (a .1 .1 .1 .1 .1 .1 .0) (a .1 .1 .1 .1 .1 .1 .1 .0) (a .1 .1 .1 .1 .1 .1 .1 .1 .0) (are .0 .0 .1) (are .1 .0 .0 .1) (are .1 .1 .0 .0 .1) (are .1 .1 .1 .0) (are .1 .1 .1 .1 .0 .0 .1) (are .1 .1 .1 .1 .1 .0 .0 .1) (are .1 .1 .1 .1 .1 .1 .0 .1) (are .1 .1 .1 .1 .1 .1 .1 .0 .1) (are .1 .1 .1 .1 .1 .1 .1 .1 .0 .0 .1) C Λ fm known-blank known-exchange known))
-
-  goes : AllGo 𝓤 H A W 6 (f.signature .params) (f.ended .kept) stayed
-  goes = (goes-none-slice 𝓤 H A W 6 (0 ∷ []) tt (plain (λ _. u64)) yes, (goes-none-slice 𝓤 H A W 6 (1 ∷ []) tt (plain (λ _. u64)) yes, (goes-none-slice 𝓤 H A W 6 (2 ∷ []) tt (plain (λ _. u64)) yes, (goes-none 𝓤 H A W 6 (λ _. K.the-row) yes (λ κs x f. refl), (goes-slice 𝓤 H A W 6 3 tt (plain (λ _. R.the-row)), (goes-none-slice 𝓤 H A W 6 (4 ∷ []) tt (plain (λ _. u64)) yes, (goes-none 𝓤 H A W 6 (λ _. u64) yes (λ κs x f. refl), (goes-none 𝓤 H A W 6 (λ _. u64) yes (λ κs x f. refl), (goes-gave-slice 𝓤 H A W 6 5 tt (plain (λ _. u64)), tt)))))))))
-
-f-meets : {M : Type 1} (𝓤 : URA M) (H : Heap 𝓤) (A : Atoms 𝓤) (W : Given 𝓤 H A) (at-mem : Memory → SProp 𝓤) (run : Routine → Fun 𝓤) (𝓣 : Tables 𝓤 H)
-    → Triple 𝓤 (𝓣 .C #blank) (Blank 𝓤 H A at-mem run) → Triple 𝓤 (𝓣 .C #exchange) (Exchange 𝓤 H A at-mem run) → Triple 𝓤 (𝓣 .C #callee) (Callee 𝓤 H A at-mem run) → Meets 𝓤 H A f.signature (WpFn 𝓤 H (𝓣 .C) (𝓣 .Λ) code.function) (f.spec 𝓤 H A at-mem run)
-f-meets 𝓤 H A W at-mem run 𝓣 known-blank known-exchange known = walk-meets 𝓤 H A f.ended stayed W (goes 𝓤 H A W at-mem run) (f.clauses 𝓤 H A at-mem run) (WpFn 𝓤 H (𝓣 .C) (𝓣 .Λ) code.function) (WpFn-mono 𝓤 H (W .laws) 𝓣 code.function)
-    (f-walks 𝓤 H A W at-mem run (𝓣 .C) (𝓣 .Λ) (fmOf 𝓤 H (W .laws) 𝓣) known-blank known-exchange known)
-
-pub run-rest-spec : {M : Type 1} → stated.statement M
-unfolding code.routine tablesOf
+pub run-rest-spec : {M : Type 1} → statement M
+unfolding code.routine
 run-rest-spec 𝓤 H 𝓜 𝓖 𝓡 =
-    entered 𝓤 H (tripleOf 𝓤 H (𝓖 .A) f.signature (f.spec 𝓤 H (𝓖 .A) (𝓜 .mem) (𝓡 .run)))
-    (tables 𝓤 H 𝓜 𝓡 code.env .C) (tables 𝓤 H 𝓜 𝓡 code.env .Λ) #run-rest code.function (code.unfolded 𝓤 H 𝓜 𝓡)
-    (f-meets 𝓤 H (𝓖 .A) (givenOf 𝓤 H 𝓜 𝓖) (𝓜 .mem) (𝓡 .run) (tablesOf 𝓤 H 𝓜 (tables 𝓤 H 𝓜 𝓡 code.env))
-    (cited 𝓤 H (Blank 𝓤 H (𝓖 .A) (𝓜 .mem) (𝓡 .run)) 𝓜 𝓡 code.env #blank blank-def.routine code.calls-lent-lock·exchange·blank (blank-thm.met 𝓤 H 𝓜 𝓖 𝓡))
-    (cited 𝓤 H (Exchange 𝓤 H (𝓖 .A) (𝓜 .mem) (𝓡 .run)) 𝓜 𝓡 code.env #exchange exchange-def.routine code.calls-lent-lock·exchange·exchange (exchange-thm.met 𝓤 H 𝓜 𝓖 𝓡))
-    (cited 𝓤 H (Callee 𝓤 H (𝓖 .A) (𝓜 .mem) (𝓡 .run)) 𝓜 𝓡 code.env #callee callee-def.routine code.calls-lent-lock·run·rest-taken (callee-thm.met 𝓤 H 𝓜 𝓖 𝓡)))
+    proved of-rest (λ κs. ((refl, (refl, (refl, (refl, tt)))), (refl, (refl, (refl, tt))), refl))
+    𝓤 H (λ κs a. g.clauses 𝓤 H (𝓖 .A) (𝓜 .mem) (𝓡 .run) κs a .ensures tt) (λ κs a. f.clauses 𝓤 H (𝓖 .A) (𝓜 .mem) (𝓡 .run) κs a .ensures tt)
+    (λ κs x l y t r ws. let used = rowWords * y .1 .1 .0 in
+    let left = run-any-length (lists (x .0 .now) (x .1 .0 .now) (x .1 .1 .0 .now)) (x .1 .1 .1 .0) (l .now) (y .0 .now) (y .1 .0) (drop used (t .now)) in
+    two-three 𝓤 _ _ _ _ _ (λ e traced. let put = put-as-left ran-with (l .now) _ r _ _ e (left .0) (left .1) in (put .0, put .1, traced ∙ ap (λ (us : List ℕ). take used (t .now) ++ us) (left .2))))
+    𝓜 𝓖 𝓡 code.env name (code.unfolded 𝓤 H 𝓜 𝓡) code.calls-lent-lock·exchange·blank code.calls-lent-lock·exchange·exchange code.calls-lent-lock·run·rest-taken (met 𝓤 H 𝓜 𝓖 𝓡)

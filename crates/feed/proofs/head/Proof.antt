@@ -1,0 +1,11 @@
+-- `head` meets its contract. Assumes nothing.
+use mathlib.Core.Path.{refl}
+use borrow.Author.Needs.{needs}
+use Rattle.feed.proofs.head.Statement.{statement}
+use Rattle.feed.proofs.head.Tie as tie
+
+returns : tie.Need-returns
+returns c = let written = c .before .before .put-header .ensures in (rw (written .0) refl, written .1)
+
+pub head-spec : {M : Type 1} → statement M
+head-spec = tie.close (tie.spec (λ c κs. search needs) (λ c. search needs) returns)

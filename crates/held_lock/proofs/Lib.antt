@@ -1,0 +1,4 @@
+pub mod Lending
+pub mod Whole
+pub mod Held
+pub mod Few

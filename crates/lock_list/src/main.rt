@@ -1,0 +1,967 @@
+// Replays the list on standard input against setup, run and drain, and prints how many of its calls agree.
+//
+// oracle/lock.rs makes the list and says what its fields are: each line is one call with all that is lent and all that comes back. The
+// last lines are wrong on purpose, and each of them has to be found. Nothing of the list is passed over: a line that cannot be read, and
+// a state that the types do not have, are counted too.
+ghost use mathlib.Core.Bool.{true};
+ghost use mathlib.Core.Path.{_≡_};
+use atomic::Count;
+use cell::pred;
+use cell::pred::Named;
+use cell::pred::Pred;
+use cell::value;
+use cell::value::Content;
+use libc::STDIN_FILENO;
+use libc::STDOUT_FILENO;
+use lines::Parsed;
+use lines::number;
+use lock::drain;
+use lock::drain::Drained;
+use lock::run;
+use lock::run::Ran;
+use lock::setup;
+use lock::setup::Begun;
+use machine::Lock;
+use machine::Mover;
+use machine::Place;
+use machine::Rec;
+use machine::Refusal;
+use machine::Start;
+use tally::Tally;
+use words::names::UNSOUND;
+
+// What a line that is wrong on purpose is there for.
+const WRONG: u64 = 999;
+
+struct Counts {
+    tally: Tally,
+    unreadable: u64,
+    no_such_state: u64,
+    // Lines that are wrong on purpose and were found so.
+    found: u64,
+}
+
+struct Reading {
+    row: Row,
+    counts: Counts,
+    at_end: bool,
+}
+
+fn main() {
+    let mut line = [0u64; ROOM];
+    let mut now = Reading {
+        row: start_row(),
+        counts: no_counts(),
+        at_end: false,
+    };
+    // A proved loop has to end, and nothing says that the input does: it counts its turns down from a number that no run uses up.
+    let mut turns = u64::MAX;
+    while turns > 0 && !now.at_end {
+        now = read_some(&mut line, now);
+        turns -= 1;
+    }
+    report(now);
+}
+
+fn no_counts() -> Counts {
+    Counts {
+        tally: tally::start(),
+        unreadable: 0,
+        no_such_state: 0,
+        found: 0,
+    }
+}
+
+// Reads once. A read that fails ends the list, and the number of rows then shows it.
+fn read_some(line: &mut [u64; ROOM], now: Reading) -> Reading {
+    let mut chunk = io::large_buffer();
+    let got = libc::read(STDIN_FILENO, &mut chunk);
+    let n = io::count(got, &chunk);
+    if n == 0 {
+        return stop(now);
+    }
+    feed(&chunk[..n], line, now)
+}
+
+fn stop(now: Reading) -> Reading {
+    let row = now.row;
+    let counts = now.counts;
+    Reading {
+        row,
+        counts,
+        at_end: true,
+    }
+}
+
+// A line may end in a later chunk, so its numbers gather in their own room.
+fn feed(chunk: &[u8], line: &mut [u64; ROOM], from: Reading) -> Reading {
+    let mut now = from;
+    let mut i = 0;
+    while i < chunk.len() {
+        now = push(line, now, chunk[i]);
+        i += 1;
+    }
+    now
+}
+
+fn push(line: &mut [u64; ROOM], now: Reading, b: u8) -> Reading {
+    let row = now.row;
+    let counts = now.counts;
+    if b == b'\n' {
+        let whole = end_field(line, row);
+        return Reading {
+            row: start_row(),
+            counts: end_line(line, whole, counts),
+            at_end: false,
+        };
+    }
+    Reading {
+        row: push_byte(line, row, b),
+        counts,
+        at_end: false,
+    }
+}
+
+// The first line is the header. A call in its place would be missing from the number of rows.
+fn end_line(line: &[u64], row: Row, counts: Counts) -> Counts {
+    let tally = counts.tally;
+    if tally.line == 1 {
+        return passed(counts);
+    }
+    let n = row.count;
+    if n > line.len() {
+        return unreadable(counts);
+    }
+    let words = &line[0..n];
+    let verdict = if row.is_broken {
+        Verdict::Unreadable
+    } else {
+        replay(words)
+    };
+    if word(words, 0) == WRONG {
+        return on_wrong(counts, verdict);
+    }
+    on_verdict(counts, verdict)
+}
+
+fn on_verdict(counts: Counts, verdict: Verdict) -> Counts {
+    match verdict {
+        Verdict::Equal => counted(counts, true),
+        Verdict::Different => counted(counts, false),
+        Verdict::Unreadable => unreadable(counts),
+        Verdict::NoSuchState => no_such_state(counts),
+    }
+}
+
+// A wrong line that agrees differs from what it is there for, and is named as a line that differs.
+fn on_wrong(counts: Counts, verdict: Verdict) -> Counts {
+    match verdict {
+        Verdict::Equal => counted(counts, false),
+        Verdict::Different => found(counts, b"wrong on purpose, different at line "),
+        Verdict::Unreadable => found(counts, b"wrong on purpose, unreadable at line "),
+        Verdict::NoSuchState => counted(counts, false),
+    }
+}
+
+fn counted(counts: Counts, is_equal: bool) -> Counts {
+    let tally = counts.tally;
+    Counts {
+        tally: tally::count(tally, is_equal),
+        unreadable: counts.unreadable,
+        no_such_state: counts.no_such_state,
+        found: counts.found,
+    }
+}
+
+// A line that is no row, or none of a call that is made.
+fn passed(counts: Counts) -> Counts {
+    let tally = counts.tally;
+    Counts {
+        tally: tally::pass(tally),
+        unreadable: counts.unreadable,
+        no_such_state: counts.no_such_state,
+        found: counts.found,
+    }
+}
+
+fn unreadable(counts: Counts) -> Counts {
+    let tally = counts.tally;
+    print(b"unreadable at line ", tally.line);
+    let mut after = passed(counts);
+    after.unreadable = std::num::wrapping_add_u64(counts.unreadable, 1);
+    after
+}
+
+fn no_such_state(counts: Counts) -> Counts {
+    let mut after = passed(counts);
+    after.no_such_state = std::num::wrapping_add_u64(counts.no_such_state, 1);
+    after
+}
+
+fn found(counts: Counts, how: &[u8]) -> Counts {
+    let tally = counts.tally;
+    print(how, tally.line);
+    let mut after = passed(counts);
+    after.found = std::num::wrapping_add_u64(counts.found, 1);
+    after
+}
+
+// A last line with no break may be cut short, and cannot be read.
+fn report(now: Reading) {
+    let row = now.row;
+    let counts = now.counts;
+    let last = if is_started(row) {
+        unreadable(counts)
+    } else {
+        counts
+    };
+    let tally = last.tally;
+    tally::report(tally);
+    print(b"unreadable ", last.unreadable);
+    print(b"no such state ", last.no_such_state);
+    print(b"wrong on purpose and found ", last.found);
+}
+
+fn print(what: &[u8], n: u64) {
+    io::write_all(STDOUT_FILENO, what);
+    io::print_decimal(STDOUT_FILENO, n);
+    io::write_all(STDOUT_FILENO, b"\n");
+}
+
+// The call of a line, made by value and with the records lent, and compared with what the line says of it.
+
+// Room for a trace list. The longest of the list has 68 words; a line with a longer one than the room counts as different.
+const TRACE: usize = 128;
+
+enum Verdict {
+    Equal,
+    Different,
+    Unreadable,
+    NoSuchState,
+}
+
+// What a call comes to. Where a setup is refused there is no lock, and the one here does not count.
+struct Told {
+    is_made: bool,
+    refusal: Refusal,
+    n: u64,
+    done: u64,
+    lock: Lock,
+    recs: [Rec; 16],
+}
+
+fn replay(line: &[u64]) -> Verdict {
+    let p = parts_of(line);
+    if !are_whole(line, p) {
+        return Verdict::Unreadable;
+    }
+    match lock_before(line, p) {
+        Before::Is(lock) => replay_call(line, p, call_on(line, p, lock)),
+        Before::NoSuchState => Verdict::NoSuchState,
+        Before::Broken => Verdict::Unreadable,
+    }
+}
+
+// By value, and with the records lent.
+fn replay_call(line: &[u64], p: Parts, given: Given) -> Verdict {
+    if agrees(line, p, given, false) && agrees(line, p, given, true) {
+        Verdict::Equal
+    } else {
+        Verdict::Different
+    }
+}
+
+fn agrees(line: &[u64], p: Parts, given: Given, is_lent: bool) -> bool {
+    let mut trace = [0u64; TRACE];
+    let before = trace_of(line, p);
+    let n = before.len();
+    if n > TRACE {
+        return false;
+    }
+    agrees_with(line, p, given, is_lent, &mut trace[..n])
+}
+
+fn agrees_with(line: &[u64], p: Parts, given: Given, is_lent: bool, trace: &mut [u64]) -> bool {
+    load(trace, trace_of(line, p));
+    let told = made(line, p, given, is_lent, trace);
+    is_told(line, p, given, told) && is_same(trace, trace_after(line, p))
+}
+
+// The trace list as it is before the call.
+fn load(trace: &mut [u64], before: &[u64]) {
+    let mut i = 0;
+    while i < before.len() {
+        if i >= trace.len() {
+            return;
+        }
+        trace[i] = before[i];
+        i += 1;
+    }
+}
+
+fn made(line: &[u64], p: Parts, given: Given, is_lent: bool, trace: &mut [u64]) -> Told {
+    let call = given.call;
+    if is_lent {
+        return match call {
+            SETUP => set_up_lent(line, p, given),
+            DRAIN => drained_lent(line, p, given),
+            _ => ran_lent(line, p, given, trace),
+        };
+    }
+    match call {
+        SETUP => set_up(line, p, given),
+        DRAIN => drained(line, p, given),
+        _ => ran(line, p, given, trace),
+    }
+}
+
+fn set_up(line: &[u64], p: Parts, given: Given) -> Told {
+    let lock = given.lock;
+    let pred = lock.pred;
+    let top = lock.top;
+    let cell = lock.cell;
+    let first = value::kept(cell);
+    let recs = given.recs;
+    let begun = setup::setup(
+        pred,
+        top,
+        first,
+        lens_of(line, p),
+        ops_of(line, p),
+        vals_of(line, p),
+        recs,
+        given.count,
+    );
+    after_setup(begun, lock)
+}
+
+fn set_up_lent(line: &[u64], p: Parts, given: Given) -> Told {
+    let lock = given.lock;
+    let pred = lock.pred;
+    let top = lock.top;
+    let cell = lock.cell;
+    let first = value::kept(cell);
+    let recs = given.recs;
+    let begun = held_lock::setup(
+        pred,
+        top,
+        first,
+        lens_of(line, p),
+        ops_of(line, p),
+        vals_of(line, p),
+        recs,
+        given.count,
+    );
+    after_setup(begun, lock)
+}
+
+fn after_setup(begun: Begun, given: Lock) -> Told {
+    let recs = begun.recs;
+    let start = begun.start;
+    match start {
+        Start::Made(lock) => told_by(true, not_refused(), 0, 0, lock, recs),
+        Start::Refused(why) => told_by(false, why, 0, 0, given, recs),
+    }
+}
+
+fn ran(line: &[u64], p: Parts, given: Given, trace: &mut [u64]) -> Told {
+    let lock = given.lock;
+    let recs = given.recs;
+    let left = run::run(
+        lens_of(line, p),
+        ops_of(line, p),
+        vals_of(line, p),
+        lock,
+        recs,
+        given.count,
+        schedule_of(line, p),
+        given.budget,
+        trace,
+    );
+    after_run(left)
+}
+
+fn ran_lent(line: &[u64], p: Parts, given: Given, trace: &mut [u64]) -> Told {
+    let lock = given.lock;
+    let recs = given.recs;
+    let left = held_lock::run(
+        lens_of(line, p),
+        ops_of(line, p),
+        vals_of(line, p),
+        lock,
+        recs,
+        given.count,
+        schedule_of(line, p),
+        given.budget,
+        trace,
+    );
+    after_run(left)
+}
+
+fn after_run(left: Ran) -> Told {
+    let refusal = left.refusal;
+    let lock = left.lock;
+    let recs = left.recs;
+    told_by(true, refusal, left.n, left.done, lock, recs)
+}
+
+fn drained(line: &[u64], p: Parts, given: Given) -> Told {
+    let lock = given.lock;
+    let recs = given.recs;
+    let left = drain::drain(
+        lens_of(line, p),
+        ops_of(line, p),
+        vals_of(line, p),
+        lock,
+        recs,
+        given.count,
+    );
+    after_drain(left)
+}
+
+fn drained_lent(line: &[u64], p: Parts, given: Given) -> Told {
+    let lock = given.lock;
+    let recs = given.recs;
+    let left = held_lock::drain(
+        lens_of(line, p),
+        ops_of(line, p),
+        vals_of(line, p),
+        lock,
+        recs,
+        given.count,
+    );
+    after_drain(left)
+}
+
+fn after_drain(left: Drained) -> Told {
+    let refusal = left.refusal;
+    let lock = left.lock;
+    let recs = left.recs;
+    told_by(true, refusal, left.n, 0, lock, recs)
+}
+
+fn not_refused() -> Refusal {
+    Refusal {
+        number: 0,
+        thread: 0,
+        place: 0,
+    }
+}
+
+fn told_by(
+    is_made: bool,
+    refusal: Refusal,
+    n: u64,
+    done: u64,
+    lock: Lock,
+    recs: [Rec; 16],
+) -> Told {
+    Told {
+        is_made,
+        refusal,
+        n,
+        done,
+        lock,
+        recs,
+    }
+}
+
+fn is_told(line: &[u64], p: Parts, given: Given, told: Told) -> bool {
+    let refusal = told.refusal;
+    let answer = [
+        refusal.number,
+        refusal.thread,
+        refusal.place,
+        told.n,
+        told.done,
+    ];
+    let recs = told.recs;
+    let recs_after = part(line, p.recs_after, p.trace_after);
+    is_same(&answer, part(line, p.answer, p.lock_after))
+        && is_lock(line, p, told)
+        && word(recs_after, 0) == given.count
+        && are_records(recs, recs_after)
+}
+
+// Where no lock is made the list has zeros.
+fn is_lock(line: &[u64], p: Parts, told: Told) -> bool {
+    let after = part(line, p.lock_after, p.recs_after);
+    let zeros = [0u64; LOCK];
+    if !told.is_made {
+        return is_same(&zeros, after);
+    }
+    let lock = told.lock;
+    let numbers = numbers_of(lock, part(line, p.lock, p.recs));
+    is_same(&numbers, after)
+}
+
+fn is_same(s: &[u64], t: &[u64]) -> bool
+    ensures { λ r. ⌜ (r ≡ true → now (s .entry) ≡ now (t .entry)) × (now (s .entry) ≡ now (t .entry) → r ≡ true) ⌝ }
+{
+    if s.len() != t.len() {
+        return false;
+    }
+    let mut i = 0;
+    while i < s.len() {
+        if s[i] != t[i] {
+            return false;
+        }
+        i += 1;
+    }
+    true
+}
+
+// The state that a line has before its call, and what a call leaves, as the numbers of the list.
+
+const SETUP: u64 = 1;
+
+const RUN: u64 = 2;
+
+const DRAIN: u64 = 3;
+
+// The number of the last place, WritePut. Numbers above it name no place.
+const LAST_PLACE: u64 = 8;
+
+// As many records as an array has. Calls with more are refused, and only their count is read.
+const MOST: usize = 16;
+
+// What a call is given besides the lists. A setup's first value is what the cell holds.
+struct Given {
+    call: u64,
+    lock: Lock,
+    recs: [Rec; 16],
+    count: u64,
+    budget: u64,
+}
+
+// The lock before a call.
+enum Before {
+    Is(Lock),
+    // An empty cell that keeps a number: the type has none, and the list has 10 for it.
+    NoSuchState,
+    Broken,
+}
+
+fn lock_before(line: &[u64], p: Parts) -> Before {
+    let call = word(line, 1);
+    let numbers = part(line, p.lock, p.recs);
+    let recs = part(line, p.recs, p.lens);
+    if !is_call(call) || !are_bits(numbers) || !are_places(recs) {
+        return Before::Broken;
+    }
+    if call != SETUP && keeps(numbers) {
+        return ruled_out(word(line, p.answer));
+    }
+    match pred_of(numbers) {
+        Named::Known(pred) => Before::Is(lock_of(numbers, pred, cell_of(numbers, call))),
+        Named::Unknown => Before::Broken,
+    }
+}
+
+fn call_on(line: &[u64], p: Parts, lock: Lock) -> Given {
+    let numbers = part(line, p.recs, p.lens);
+    Given {
+        call: word(line, 1),
+        lock,
+        recs: recs_of(numbers),
+        count: word(numbers, 0),
+        budget: word(line, p.budget),
+    }
+}
+
+fn is_call(call: u64) -> bool {
+    call == SETUP || call == RUN || call == DRAIN
+}
+
+// The flag, whether the cell is full, whether there is a mover and whether the lock is finished are 1 or 0; where there is no mover, its
+// number is 0.
+fn are_bits(numbers: &[u64]) -> bool {
+    let moved = word(numbers, 10);
+    let is_mover = moved == 1 || moved == 0 && word(numbers, 11) == 0;
+    let flags = word(numbers, 0) <= 1 && word(numbers, 2) <= 1;
+    flags && is_mover && word(numbers, 12) <= 1
+}
+
+fn are_places(recs: &[u64]) -> bool {
+    let mut i = 2;
+    while i < recs.len() {
+        if recs[i] > LAST_PLACE {
+            return false;
+        }
+        if recs.len() - i <= RECORD {
+            return true;
+        }
+        i += RECORD;
+    }
+    true
+}
+
+// An empty cell that keeps a number.
+fn keeps(numbers: &[u64]) -> bool {
+    word(numbers, 2) == 0 && word(numbers, 3) != 0
+}
+
+fn ruled_out(number: u64) -> Before {
+    if number == UNSOUND {
+        Before::NoSuchState
+    } else {
+        Before::Broken
+    }
+}
+
+fn pred_of(numbers: &[u64]) -> Named {
+    pred::of_kind(word(numbers, 4), word(numbers, 5), word(numbers, 6))
+}
+
+fn cell_of(numbers: &[u64], call: u64) -> Content {
+    if call == SETUP || word(numbers, 2) == 1 {
+        Content::Full(word(numbers, 3))
+    } else {
+        Content::Empty
+    }
+}
+
+fn mover_of(numbers: &[u64]) -> Mover {
+    if word(numbers, 10) == 1 {
+        Mover::By(word(numbers, 11))
+    } else {
+        Mover::Nobody
+    }
+}
+
+fn lock_of(numbers: &[u64], pred: Pred, cell: Content) -> Lock {
+    Lock {
+        exc: word(numbers, 0) == 1,
+        rc: Count(word(numbers, 1)),
+        cell,
+        pred,
+        top: Count(word(numbers, 7)),
+        reads: Count(word(numbers, 8)),
+        writes: Count(word(numbers, 9)),
+        mover: mover_of(numbers),
+        finished: word(numbers, 12) == 1,
+    }
+}
+
+// Records that the list lacks are Idle, with 0 for each number.
+fn recs_of(numbers: &[u64]) -> [Rec; 16] {
+    let mut recs = [words::plain(0, Place::Idle); 16];
+    let mut i = 0;
+    while i < MOST {
+        recs[i] = rec_of(rec_part(numbers, i));
+        i += 1;
+    }
+    recs
+}
+
+// The numbers of record i; none where the list has no such record.
+fn rec_part(numbers: &[u64], i: usize) -> &[u64] {
+    if i >= MOST {
+        return part(numbers, 0, 0);
+    }
+    let from = RECORD * i + 1;
+    part(numbers, from, from + RECORD)
+}
+
+fn rec_of(numbers: &[u64]) -> Rec {
+    let place = place_of(word(numbers, 1));
+    let seen = Count(word(numbers, 2));
+    words::rec_at(word(numbers, 0), place, seen, word(numbers, 3))
+}
+
+// A number that names no place is not asked for.
+fn place_of(number: u64) -> Place {
+    match number {
+        1 => Place::ReadTry,
+        2 => Place::ReadCheck,
+        3 => Place::ReadBack,
+        4 => Place::Reading,
+        5 => Place::WriteWait,
+        6 => Place::WriteTake,
+        7 => Place::Writing,
+        8 => Place::WritePut,
+        _ => Place::Idle,
+    }
+}
+
+// Whether the records are those of the list, as far as both have them.
+fn are_records(recs: [Rec; 16], numbers: &[u64]) -> bool {
+    let mut i = 0;
+    while i < MOST {
+        let rec = recs[i];
+        if !is_record(rec, rec_part(numbers, i)) {
+            return false;
+        }
+        i += 1;
+    }
+    true
+}
+
+fn is_record(rec: Rec, numbers: &[u64]) -> bool {
+    let place = rec.place;
+    let seen = rec.seen;
+    rec.at == word(numbers, 0)
+        && is_place(place, word(numbers, 1))
+        && seen.0 == word(numbers, 2)
+        && rec.taken == word(numbers, 3)
+}
+
+fn is_place(place: Place, number: u64) -> bool {
+    number <= LAST_PLACE && words::is(place, place_of(number))
+}
+
+// A lock as the list has it. A parameter that its predicate has no use for is as it was given.
+fn numbers_of(lock: Lock, given: &[u64]) -> [u64; LOCK] {
+    let rc = lock.rc;
+    let top = lock.top;
+    let reads = lock.reads;
+    let writes = lock.writes;
+    let cell = lock.cell;
+    let pred = lock.pred;
+    let mover = lock.mover;
+    let named = named_by(pred, word(given, 5), word(given, 6));
+    [
+        words::bit(lock.exc),
+        rc.0,
+        words::full(cell),
+        value::kept(cell),
+        named[0],
+        named[1],
+        named[2],
+        top.0,
+        reads.0,
+        writes.0,
+        words::moving(mover),
+        moved_by(mover),
+        words::bit(lock.finished),
+    ]
+}
+
+fn named_by(pred: Pred, a: u64, b: u64) -> [u64; 3] {
+    match pred {
+        Pred::Any => [0, a, b],
+        Pred::Either(x, y) => [1, x, y],
+        Pred::Parity(x) => [2, x, b],
+    }
+}
+
+fn moved_by(mover: Mover) -> u64 {
+    match mover {
+        Mover::Nobody => 0,
+        Mover::By(i) => i,
+    }
+}
+
+// Where the parts of a line stand. A LIST is the number of its elements and then the elements.
+
+// Where a part would stand that lies past the line's end.
+const PAST: usize = usize::MAX;
+
+// How many numbers a lock has, a record, and the answer: the refusal's three, n, and the rows with answer 0.
+const LOCK: usize = 13;
+
+const RECORD: usize = 4;
+
+const ANSWER: usize = 5;
+
+// Where each part starts, and where the last one ends. Each ends where the next one starts.
+struct Parts {
+    lock: usize,
+    recs: usize,
+    lens: usize,
+    ops: usize,
+    vals: usize,
+    schedule: usize,
+    budget: usize,
+    trace: usize,
+    answer: usize,
+    lock_after: usize,
+    recs_after: usize,
+    trace_after: usize,
+    end: usize,
+}
+
+fn parts_of(line: &[u64]) -> Parts {
+    let lock = 2;
+    let recs = skip(line, lock, LOCK);
+    let lens = past_records(line, recs);
+    let ops = past_list(line, lens);
+    let vals = past_list(line, ops);
+    let schedule = past_list(line, vals);
+    let budget = past_list(line, schedule);
+    let trace = skip(line, budget, 1);
+    let answer = past_list(line, trace);
+    let lock_after = skip(line, answer, ANSWER);
+    let recs_after = skip(line, lock_after, LOCK);
+    let trace_after = past_records(line, recs_after);
+    Parts {
+        lock,
+        recs,
+        lens,
+        ops,
+        vals,
+        schedule,
+        budget,
+        trace,
+        answer,
+        lock_after,
+        recs_after,
+        trace_after,
+        end: past_list(line, trace_after),
+    }
+}
+
+// A line has all its parts and nothing more.
+fn are_whole(line: &[u64], p: Parts) -> bool {
+    p.end == line.len()
+}
+
+// The number at a place, 0 where there is none.
+fn word(line: &[u64], at: usize) -> u64 {
+    if at < line.len() { line[at] } else { 0 }
+}
+
+// The numbers from a place up to another, none where that is past the end.
+fn part(line: &[u64], from: usize, to: usize) -> &[u64] {
+    if to > line.len() {
+        return &line[0..0];
+    }
+    if from > to {
+        return &line[0..0];
+    }
+    &line[from..to]
+}
+
+// The elements of a LIST that starts at a place and ends at another.
+fn list(line: &[u64], from: usize, to: usize) -> &[u64] {
+    part(line, skip(line, from, 1), to)
+}
+
+fn lens_of(line: &[u64], p: Parts) -> &[u64] {
+    list(line, p.lens, p.ops)
+}
+
+fn ops_of(line: &[u64], p: Parts) -> &[u64] {
+    list(line, p.ops, p.vals)
+}
+
+fn vals_of(line: &[u64], p: Parts) -> &[u64] {
+    list(line, p.vals, p.schedule)
+}
+
+fn schedule_of(line: &[u64], p: Parts) -> &[u64] {
+    list(line, p.schedule, p.budget)
+}
+
+fn trace_of(line: &[u64], p: Parts) -> &[u64] {
+    list(line, p.trace, p.answer)
+}
+
+fn trace_after(line: &[u64], p: Parts) -> &[u64] {
+    list(line, p.trace_after, p.end)
+}
+
+// The place that lies so many numbers further on.
+fn skip(line: &[u64], at: usize, n: usize) -> usize {
+    if at > line.len() {
+        return PAST;
+    }
+    if n > line.len() - at {
+        return PAST;
+    }
+    at + n
+}
+
+fn past_list(line: &[u64], at: usize) -> usize {
+    let n = word(line, at);
+    if n > line.len() as u64 {
+        return PAST;
+    }
+    skip(line, skip(line, at, 1), n as usize)
+}
+
+fn past_records(line: &[u64], at: usize) -> usize {
+    let n = word(line, at);
+    if n > (line.len() / RECORD) as u64 {
+        return PAST;
+    }
+    skip(line, skip(line, at, 1), n as usize * RECORD)
+}
+
+// A line of the list, read byte by byte: numbers between commas, plain decimal below 2^64 with no needless zero.
+
+// Room for the numbers of a line. A line of the list is below 5,200 bytes, and a number takes two of them at least.
+const ROOM: usize = 2600;
+
+// A line as far as it is read. Its whole numbers stand in the room.
+struct Row {
+    count: usize,
+    // The number under way.
+    number: u64,
+    has_digit: bool,
+    is_broken: bool,
+}
+
+fn start_row() -> Row {
+    Row {
+        count: 0,
+        number: 0,
+        has_digit: false,
+        is_broken: false,
+    }
+}
+
+// A byte other than the line's break.
+fn push_byte(line: &mut [u64; ROOM], row: Row, b: u8) -> Row {
+    if b == b',' {
+        end_field(line, row)
+    } else {
+        push_digit(row, b)
+    }
+}
+
+// A first digit 0 is the whole number.
+fn push_digit(row: Row, b: u8) -> Row {
+    if row.has_digit && row.number == 0 {
+        return broken(row);
+    }
+    match number::one_more(row.number, b) {
+        Parsed::Is(n) => Row {
+            count: row.count,
+            number: n,
+            has_digit: true,
+            is_broken: row.is_broken,
+        },
+        Parsed::No => broken(row),
+    }
+}
+
+fn end_field(line: &mut [u64; ROOM], row: Row) -> Row {
+    let at = row.count;
+    if !row.has_digit {
+        return broken(row);
+    }
+    if at >= ROOM {
+        return broken(row);
+    }
+    line[at] = row.number;
+    Row {
+        count: at + 1,
+        number: 0,
+        has_digit: false,
+        is_broken: row.is_broken,
+    }
+}
+
+fn broken(row: Row) -> Row {
+    Row {
+        count: row.count,
+        number: 0,
+        has_digit: false,
+        is_broken: true,
+    }
+}
+
+fn is_started(row: Row) -> bool {
+    row.has_digit || row.is_broken || row.count > 0
+}

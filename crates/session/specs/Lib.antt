@@ -1,0 +1,4 @@
+pub mod Session
+pub mod Whole
+pub mod Chunks
+pub mod Caller
