@@ -8,6 +8,7 @@ use mathlib.Core.List.{List, [], _∷_, _++_}
 use lib.Dec.{eqb}
 use lib.ListN.{length, drop}
 use Rattle.cell.specs.declared.pred.Pred.{Pred}
+use Rattle.machine.specs.Demands.{RefusedSetup as OfSetup}
 use Rattle.machine.specs.Names.{mostThreads, unsound, rowWords}
 use Rattle.machine.specs.Refusals.{lowest}
 use Rattle.machine.specs.Lists.{Lent, scriptsOf, listChecks, beside}
@@ -32,10 +33,9 @@ refusedRan why L = record { refusal = why; n = 0; done = 0; lock = L }
 abbrev pub refusedDrained : Refusal → Lock → Drained
 refusedDrained why L = record { refusal = why; n = 0; lock = L }
 
+-- of setup over a list `machine` says it already
 abbrev pub RefusedSetup : Type 0
-RefusedSetup =
-    (q : Pred) (m v : ℕ) (s : Lent) (l : List Rec) → setupRefusal q m v s (length l) ≢ 0
-    → (setup q m v s (length l) ≡ Refused (beside s (setupRefusal q m v s (length l)))) × (setupRecs q m v s l ≡ l)
+RefusedSetup = OfSetup
 
 module _ (s : Lent) (L : Lock) (l : List Rec) where
   abbrev RunRefused : Type 0

@@ -5,6 +5,7 @@ use mathlib.Core.Path.{_≡_}
 use mathlib.Core.List.{List, [], _∷_, _++_}
 use lib.ListN.{length, replicate}
 use Rattle.lines.specs.Ascii.{bytes}
+use Rattle.lines.specs.Edges.{wide}
 use Rattle.scenario.specs.Printed.{printed}
 
 -- lines, each with its break
@@ -74,16 +75,13 @@ FirstLine =
     × Prints (file ("" ∷ [])) ("refused,31,1" ∷ [])
     × Prints (file ("kind,a,b," ∷ [])) ("refused,32,1" ∷ [])
 
--- 80 bytes before the break are allowed, 81 are not
-abbrev pub long : ℕ → List ℕ
-long n = replicate n 107 ++ bytes ",1,2,3"
-
+-- 80 bytes before the break are allowed, 81 are not: a line of that width is that of `lines`
 abbrev pub Longest : Type 0
 Longest =
-    (length (long 74) ≡ 80)
-    × Prints (long 74 ++ bytes "\r\n") ("refused,32,1" ∷ [])
-    × Prints (long 75 ++ bytes "\r\n") ("refused,31,1" ∷ [])
-    × Prints (long 75) ("refused,31,1" ∷ [])
+    (length (wide 74) ≡ 80)
+    × Prints (wide 74 ++ bytes "\r\n") ("refused,32,1" ∷ [])
+    × Prints (wide 75 ++ bytes "\r\n") ("refused,31,1" ∷ [])
+    × Prints (wide 75) ("refused,31,1" ∷ [])
 
 abbrev pub WrongNumber : Type 0
 WrongNumber =
