@@ -1,24 +1,35 @@
 #!/bin/sh
-# Runs every example through the command: the trace must be its .out file, byte for byte, and the status 1 exactly if that ends refused.
+# Runs every example through the command. The trace must be its .out file and the waveform its .vcd file, byte for byte; the signals that are read
+# in the waveform must be those of the trace; and the status 1 exactly if the trace ends refused.
 set -u
 cd "$(dirname "$0")/.." || exit 2
-trace=$(mktemp)
-trap 'rm -f "$trace"' EXIT
+. tests/lib.sh
+room=$(mktemp -d)
+trap 'rm -rf "$room"' EXIT
 passed=0 failed=0
+
+# expect STATUS FILE COMMAND SCENARIO: what the command prints is the file
+expect() {
+    ./trestlecat "$3" "$4" >"$room/out" 2>"$room/err"
+    got=$?
+    if [ "$got" -eq "$1" ] && cmp "$room/out" "$2"; then
+        passed=$((passed + 1))
+    else
+        echo "$3 $4: the status is $got and should be $1; what it prints should be $2"
+        failed=$((failed + 1))
+    fi
+}
+
 for scenario in examples/*.csv; do
-    expected=${scenario%.csv}.out
-    case $(tail -n 1 "$expected") in
+    name=${scenario%.csv}
+    case $(tail -n 1 "$name.out") in
     refused,*) status=1 ;;
     *) status=0 ;;
     esac
-    ./trestlecat run "$scenario" >"$trace"
-    got=$?
-    if [ "$got" -eq "$status" ] && cmp "$trace" "$expected"; then
-        passed=$((passed + 1))
-    else
-        echo "$scenario: the status is $got and should be $status; the trace should be $expected"
-        failed=$((failed + 1))
-    fi
+    expect "$status" "$name.out" run "$scenario"
+    expect "$status" "$name.vcd" wave "$scenario"
+    signals <"$name.out" >"$room/signals"
+    expect 0 "$room/signals" unwave "$name.vcd"
 done
 echo "$passed passed, $failed failed"
 [ "$failed" -eq 0 ] && [ "$passed" -gt 0 ]

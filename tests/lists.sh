@@ -46,4 +46,7 @@ compare lock_list
 build scenarios.rs scenario_list
 target/lists/scenario_list.oracle list target/lists/files target/lists/lock_list.oracle >target/lists/scenario_list
 compare scenario_list
+build vcd.rs vcd_list
+target/lists/vcd_list.oracle list >target/lists/vcd_list 2>target/lists/vcd_list.touched
+compare vcd_list
 exit "$differ"

@@ -1,5 +1,6 @@
 // A scenario on standard input, its trace on standard output.
 use cell::pred::Pred;
+use chunks::Input;
 use feed::Fed;
 use feed::State;
 use libc::STDERR_FILENO;
@@ -14,13 +15,7 @@ const FULL: usize = 50000;
 struct Run {
     state: State,
     standing: Standing,
-    // How many bytes the chunk has, and how many of them were taken.
-    len: usize,
-    from: usize,
-    // The input has ended.
-    last: bool,
-    // It could not be read to its end.
-    failed: bool,
+    input: Input,
     // How many bytes of text wait to be written.
     at: usize,
     // All is written, or no more can be.
@@ -71,10 +66,7 @@ fn begin() -> Run {
     Run {
         state: feed::fresh(),
         standing: pieces::at_first(Pred::Any, 1, 0),
-        len: 0,
-        from: 0,
-        last: false,
-        failed: false,
+        input: chunks::unread(),
         at: 0,
         ended: false,
     }
@@ -91,13 +83,14 @@ fn turn(
     chunk: &mut [u8],
     out: &mut [u8],
 ) -> Run {
-    let r = next_chunk(run, chunk);
-    let fed = take_chunk(r, line, lens, ops, vals, schedule, chunk, out);
-    written(r, fed, out)
+    let input = next_chunk(run.input, chunk);
+    let fed = take_chunk(run, input, line, lens, ops, vals, schedule, chunk, out);
+    written(input, fed, out)
 }
 
 fn take_chunk(
-    r: Run,
+    run: Run,
+    input: Input,
     line: &mut [u8; 80],
     lens: &mut [u64],
     ops: &mut [u64],
@@ -106,8 +99,8 @@ fn take_chunk(
     chunk: &[u8],
     out: &mut [u8],
 ) -> Fed {
-    let state = r.state;
-    let standing = r.standing;
+    let state = run.state;
+    let standing = run.standing;
     feed::feed(
         state,
         standing,
@@ -116,55 +109,41 @@ fn take_chunk(
         ops,
         vals,
         schedule,
-        front(chunk, r.len),
-        r.from,
-        r.last,
+        chunks::front(chunk, input.len),
+        input.from,
+        input.last,
         out,
-        r.at,
+        run.at,
     )
 }
 
 // A read that fails is not the end of the input: what was cut off there might be another scenario. So the turn after it is the last, and the
 // trace stops.
-fn next_chunk(run: Run, chunk: &mut [u8]) -> Run {
-    let mut r = run;
-    if r.last || r.from < r.len {
-        return r;
+fn next_chunk(input: Input, chunk: &mut [u8]) -> Input {
+    if chunks::stays(input) {
+        return input;
     }
     let got = libc::read(STDIN_FILENO, chunk);
-    r.len = io::count(got, chunk);
-    r.from = 0;
-    r.failed = got < 0;
-    r.last = got == 0;
-    if r.failed {
+    if got < 0 {
         io::write_all(
             STDERR_FILENO,
             b"runner: the input could not be read to its end, so the trace is not whole\n",
         );
     }
-    r
+    chunks::after_read(io::count(got, chunk), got < 0)
 }
 
-fn written(run: Run, fed: Fed, out: &[u8]) -> Run {
+fn written(input: Input, fed: Fed, out: &[u8]) -> Run {
     let state = fed.state;
     let standing = fed.standing;
-    let over = run.failed || feed::is_over(state);
+    let over = input.failed || feed::is_over(state);
     let flush = over || FULL < fed.at;
-    let done = !flush || io::write_all(STDOUT_FILENO, front(out, fed.at));
+    let done = !flush || io::write_all(STDOUT_FILENO, chunks::front(out, fed.at));
     Run {
         state,
         standing,
-        len: run.len,
-        from: fed.from,
-        last: run.last,
-        failed: run.failed,
+        input: chunks::taken_to(input, fed.from),
         at: if flush { 0 } else { fed.at },
         ended: over || !done,
     }
-}
-
-// The first n bytes, as far as there are bytes.
-fn front(list: &[u8], n: usize) -> &[u8] {
-    let m = words::smaller(n as u64, list.len() as u64) as usize;
-    &list[..m]
 }

@@ -232,13 +232,10 @@ fn replay(line: Line, file: &[u8], text: &[u8]) -> bool {
     if line.broken || !line.barred {
         return false;
     }
-    prints(front(file, line.in_file), front(text, line.in_text))
-}
-
-// The first n bytes, as far as there are bytes.
-fn front(list: &[u8], n: usize) -> &[u8] {
-    let m = words::smaller(n as u64, list.len() as u64) as usize;
-    &list[..m]
+    prints(
+        chunks::front(file, line.in_file),
+        chunks::front(text, line.in_text),
+    )
 }
 
 fn prints(file: &[u8], text: &[u8]) -> bool {

@@ -1,4 +1,5 @@
 pub mod Digits
 pub mod Stores
 pub mod Texts
+pub mod Values
 pub mod ReadBack

@@ -25,13 +25,17 @@ before [] l i j x h = refl
 before (y ∷ a) l i j x h =
     before a (set l i y) (suc i) j x (omega arith) ∙ ap (λ (m : List ℕ). sets m (suc i) a) (set-comm l i j y x (λ e. omega arith))
 
-pub sets-last : (a l : List ℕ) (i j x : ℕ) → j ≡ i + length a → sets l i (a ++ (x ∷ [])) ≡ sets (set l j x) i a
+sets-last : (a l : List ℕ) (i j x : ℕ) → j ≡ i + length a → sets l i (a ++ (x ∷ [])) ≡ sets (set l j x) i a
 sets-last a l i j x e = sets-append a (x ∷ []) l i ∙ rw (← e) (before a l i j x (omega arith))
+
+-- the last digit of a number, stored before the others
+pub last-stored : {s : List ℕ} (a l : List ℕ) (at p x d : ℕ) → s ≡ a ++ (x ∷ []) → p ≡ at + length a → d ≡ x → sets l at s ≡ sets (set l p d) at a
+last-stored a l at p x d g e f = rw (g, f) (sets-last a l at p x e)
 
 -- ---- the loop over digits: a digit, and the digits before it
 pub digit-stored : (l : List ℕ) (at p w d : ℕ) → 10 ≤ w → w < 2 ^ 64 → p ≡ at + length (text (w / 10)) → d ≡ 48 + w % 10
     → sets l at (text w) ≡ sets (set l p d) at (text (w / 10))
-digit-stored l at p w d h g e f = rw (text-more w h g, f) (sets-last (text (w / 10)) l at p (48 + w % 10) e)
+digit-stored l at p w d h g e f = last-stored (text (w / 10)) l at p (48 + w % 10) d (text-more w h g) e f
 
 pub first-stored : (l : List ℕ) (at w d : ℕ) → w < 10 → d ≡ 48 + w → sets l at (text w) ≡ set l at d
 first-stored l at w d h f = rw (text-one w h, f)

@@ -4,11 +4,11 @@ use mathlib.Core.Bool.{cond}
 use mathlib.Core.List.{List, [], _∷_, _++_}
 use lib.Dec.{ltb}
 
--- at most so many digits
-unfoldable pub digitsTo : ℕ → ℕ → List ℕ
-digitsTo zero v = []
-digitsTo (suc most) v = cond (ltb v 10) ((48 + v) ∷ []) (digitsTo most (v / 10) ++ ((48 + v % 10) ∷ []))
+-- at most so many digits, in a base
+unfoldable pub digitsTo : ℕ → ℕ → ℕ → List ℕ
+digitsTo base zero v = []
+digitsTo base (suc most) v = cond (ltb v base) ((48 + v) ∷ []) (digitsTo base most (v / base) ++ ((48 + v % base) ∷ []))
 
 -- a number below 2 ^ 64 has 20 digits at most
 unfoldable pub text : ℕ → List ℕ
-text v = digitsTo 20 v
+text v = digitsTo 10 20 v

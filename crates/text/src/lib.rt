@@ -1,6 +1,6 @@
 // What is printed, as text in a lent list: numbers, rows, the header and a refusal. Each `put` function stores its text from a place on and
-// returns the place after it. Where the longest such text has no room, nothing is stored and the place given is returned; no text is empty, so
-// the caller can tell.
+// returns the place after it. Where the longest such text has no room, nothing is stored and the place given is returned; no text but that of no
+// bytes is empty, so the caller can tell.
 ghost use Prim.Native.Nat.{_+_, _≤_, _<_};
 ghost use mathlib.Core.Path.{_≡_};
 ghost use mathlib.Core.List.{_++_, [], _∷_};
@@ -62,6 +62,16 @@ pub fn put_refusal(out: &mut [u8], at: usize, number: u64, line: u64) -> usize
 {
     if has_room(out.len(), at, REFUSAL) {
         return write_refusal(out, at, number, line);
+    }
+    at
+}
+
+pub fn put_bytes(out: &mut [u8], at: usize, s: &[u8]) -> usize
+    ensures { λ r. ⌜ r ≡ placeAfter (length (now (s .entry))) (now (out .entry)) at (now (s .entry)) ⌝ }
+    ensures { λ _. ⌜ now (out .exit) ≡ stored (length (now (s .entry))) (now (out .entry)) at (now (s .entry)) ⌝ }
+{
+    if has_room(out.len(), at, s.len()) {
+        return write_bytes(out, at, s);
     }
     at
 }

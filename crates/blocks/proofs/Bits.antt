@@ -1,0 +1,41 @@
+-- A number in binary: one digit, or the digits of half of it and one more; from 1 to 64 digits. Assumes nothing.
+use Prim.Native.Nat.{ℕ, _+_, _/_, _%_, _^_, _<_, _≤_}
+use mathlib.Core.Path.{_≡_, ap}
+use mathlib.Core.List.{List, [], _∷_, _++_}
+use native.Mathlib.Omega.{arith}
+use lib.ListN.{length, set}
+use lib.Seq.{sets}
+use Rattle.text.proofs.Digits.{one-digit, more-digits, short, some, length-last}
+use Rattle.text.proofs.Stores.{last-stored}
+use Rattle.blocks.specs.Binary.{binary}
+
+pub bits-one : (v : ℕ) → v < 2 → binary v ≡ (48 + v) ∷ []
+unfolding binary
+bits-one v h = one-digit 2 63 v h
+
+pub bits-more : (v : ℕ) → 2 ≤ v → v < 2 ^ 64 → binary v ≡ binary (v / 2) ++ ((48 + v % 2) ∷ [])
+unfolding binary
+bits-more v h g = more-digits 2 (omega arith) 62 v h g
+
+pub bits-short : (v : ℕ) → length (binary v) ≤ 64
+unfolding binary
+bits-short v = short 2 64 v
+
+pub bits-some : (v : ℕ) → 1 ≤ length (binary v)
+unfolding binary
+bits-some v = some 2 63 v
+
+-- ---- a turn of the loops
+pub length-more : (v : ℕ) → 2 ≤ v → v < 2 ^ 64 → length (binary v) ≡ length (binary (v / 2)) + 1
+length-more v h g = length-last (binary (v / 2)) (48 + v % 2) (bits-more v h g)
+
+pub length-one : (v : ℕ) → v < 2 → length (binary v) ≡ 1
+length-one v h = ap length (bits-one v h)
+
+-- a digit, and the digits before it
+pub bit-stored : (l : List ℕ) (at p w d : ℕ) → 2 ≤ w → w < 2 ^ 64 → p ≡ at + length (binary (w / 2)) → d ≡ 48 + w % 2
+    → sets l at (binary w) ≡ sets (set l p d) at (binary (w / 2))
+bit-stored l at p w d h g e f = last-stored (binary (w / 2)) l at p (48 + w % 2) d (bits-more w h g) e f
+
+pub first-stored : (l : List ℕ) (at w d : ℕ) → w < 2 → d ≡ 48 + w → sets l at (binary w) ≡ set l at d
+first-stored l at w d h f = rw (bits-one w h, f)

@@ -1,0 +1,132 @@
+// A waveform on standard input, its signals on standard output: a line for time 0 and one for each row. Or the one line of its refusal: 42 where
+// it is not the waveform of any signals, 41 where it has more than 262,144 bytes or more than 16,383 rows.
+ghost use mathlib.Core.Path.{_≡_};
+ghost use lib.ListN.{length};
+use blocks::Signals;
+use libc::STDERR_FILENO;
+use libc::STDIN_FILENO;
+use libc::STDOUT_FILENO;
+use vcd::Answer;
+
+// So many bytes of text are written at once; behind them the list has room for a line.
+const FULL: usize = 50000;
+
+// The refusal where there is no room.
+const NO_ROOM: u64 = 41;
+
+fn main() {
+    let mut file = file_room();
+    let mut signals = signals_room();
+    let mut out = io::large_buffer();
+    read_and_print(&mut file, &mut signals, &mut out);
+}
+
+// What the limits leave room for. The `ensures` give only the lengths, which lending the arrays needs.
+fn file_room() -> [u8; 262144]
+    ensures { λ r. ⌜ 262144 ≡ length r ⌝ }
+{
+    [0; 262144]
+}
+
+fn signals_room() -> [u64; 32768]
+    ensures { λ r. ⌜ 32768 ≡ length r ⌝ }
+{
+    [0; 32768]
+}
+
+// A read that fails is not the end of the input: what was cut off there might be another waveform.
+fn read_and_print(file: &mut [u8], signals: &mut [u64], out: &mut [u8]) {
+    let n = io::read_full(STDIN_FILENO, file);
+    let more = read_more();
+    if cut_off(n, file.len(), more) {
+        io::write_all(
+            STDERR_FILENO,
+            b"unwave: the input could not be read to its end, so nothing is printed\n",
+        );
+        return;
+    }
+    let answer = read_signals(chunks::front(file, n), 0 < more, signals);
+    print(answer, signals, out);
+}
+
+// After n bytes that have room for most: a read failed, now or before that room was full.
+fn cut_off(n: usize, most: usize, more: isize) -> bool {
+    more < 0 || 0 < more && n < most
+}
+
+// Whether anything is left in the input, or reading it fails, as `read` answers.
+fn read_more() -> isize {
+    let mut rest = io::buffer();
+    libc::read(STDIN_FILENO, &mut rest)
+}
+
+fn read_signals(file: &[u8], too_large: bool, signals: &mut [u64]) -> Answer {
+    if too_large {
+        return Answer {
+            refused: NO_ROOM,
+            n: 0,
+        };
+    }
+    vcd::read::read(file, signals)
+}
+
+fn print(answer: Answer, signals: &[u64], out: &mut [u8]) {
+    if answer.refused != 0 {
+        let n = text::put_refusal(out, 0, answer.refused, 0);
+        write(chunks::front(out, n));
+        return;
+    }
+    print_lines(signals, answer.n, out);
+}
+
+fn print_lines(signals: &[u64], rows: u64, out: &mut [u8]) {
+    let mut at = text::put_bytes(out, 0, b"time,exc,rc\r\n");
+    let mut t = 0;
+    while t < signals.len() {
+        if rows < t as u64 {
+            break;
+        }
+        at = put_line(signals, t, out, at);
+        if FULL < at {
+            if !write(chunks::front(out, at)) {
+                return;
+            }
+            at = 0;
+        }
+        t += 1;
+    }
+    write(chunks::front(out, at));
+}
+
+fn put_line(signals: &[u64], t: usize, out: &mut [u8], at: usize) -> usize {
+    let s = signals_at(signals, t);
+    let n = put_field(out, at, t as u64, b",");
+    let m = put_field(out, n, s.exc, b",");
+    put_field(out, m, s.rc, b"\r\n")
+}
+
+fn signals_at(signals: &[u64], t: usize) -> Signals {
+    if t < signals.len() / 2 {
+        return Signals {
+            exc: signals[2 * t],
+            rc: signals[2 * t + 1],
+        };
+    }
+    Signals { exc: 0, rc: 0 }
+}
+
+fn put_field(out: &mut [u8], at: usize, v: u64, end: &[u8]) -> usize {
+    let n = text::put_number(out, at, v);
+    text::put_bytes(out, n, end)
+}
+
+fn write(text: &[u8]) -> bool {
+    let done = io::write_all(STDOUT_FILENO, text);
+    if !done {
+        io::write_all(
+            STDERR_FILENO,
+            b"unwave: the signals could not be written to their end\n",
+        );
+    }
+    done
+}
