@@ -1,6 +1,6 @@
 #!/bin/sh
 # Compares the programs wave and unwave with the second programs, byte for byte: wave on every scenario file that oracle/scenarios.rs makes,
-# against oracle/lock.rs and oracle/vcd.rs in a row; unwave on damaged waveforms that oracle/vcd.rs makes, and on files at its limits.
+# against oracle/lock.rs and oracle/vcd.rs in a row, the line of a refusal too; unwave on damaged waveforms that oracle/vcd.rs makes, and on files at its limits.
 # usage: tests/compare-waves.sh [-f FAMILY] [-e EVERY] [-w WORKERS] [-s SEED] [-n FILES]
 #   -f FAMILY    takes one family of scenario files only, as `scenarios.rs` names them (all)
 #   -e EVERY     takes every EVERY-th file of each family only (1, which is 100,645 files)
@@ -33,16 +33,27 @@ folder=target/compare-waves
 rm -rf "$folder"
 mkdir -p "$folder"
 for name in lock scenarios vcd; do rustc -O --edition 2021 "oracle/$name.rs" -o "$folder/$name"; done
-# The second program for wave. It is started with the word run, as the one of tests/compare.sh.
+# The second program for wave. It is started with the word run, as the one of tests/compare.sh. The line of a refusal goes behind the waveform.
 cat >"$folder/second" <<END
 #!/bin/sh
-$folder/lock run | $folder/vcd wave
+trace=\$(mktemp)
+$folder/lock run >"\$trace"
+$folder/vcd wave <"\$trace"
+tail -n 1 "\$trace" | grep '^refused,'
+rm "\$trace"
 END
-chmod +x "$folder/second"
+# Ours says it on standard error, after the waveform.
+cat >"$folder/ours" <<'END'
+#!/bin/sh
+exec "$@" 2>&1
+END
+chmod +x "$folder/second" "$folder/ours"
 . bench/kit.sh
 set -- "$kit/lib/ld-linux-x86-64.so.2" --library-path "$kit/lib"
 [ ! -x "$kit/bin/qemu-x86_64" ] || set -- "$kit/bin/qemu-x86_64" "$@"
 differ=0
-"$folder/scenarios" compare "$workers" "$every" "$family" "$folder" "$folder/second" "$@" target/bin/wave || differ=1
+echo "wave, where rows are the lines of the waveform but one:"
+"$folder/scenarios" compare "$workers" "$every" "$family" "$folder" "$folder/second" "$folder/ours" "$@" target/bin/wave || differ=1
+echo "unwave:"
 "$folder/vcd" compare "$workers" "$seed" "$files" "$folder" "$@" target/bin/unwave || differ=1
 exit "$differ"

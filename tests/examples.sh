@@ -1,6 +1,6 @@
 #!/bin/sh
 # Runs every example through the command. The trace must be its .out file and the waveform its .vcd file, byte for byte; the signals that are read
-# in the waveform must be those of the trace; and the status 1 exactly if the trace ends refused.
+# in the waveform must be those of the trace; and the status 1 exactly if the trace ends refused, whose last line wave says on standard error.
 set -u
 cd "$(dirname "$0")/.." || exit 2
 . tests/lib.sh
@@ -20,6 +20,16 @@ expect() {
     fi
 }
 
+# says LINE COMMAND SCENARIO: that is what it said on standard error, a line or nothing
+says() {
+    if [ "$1" = "$(cat "$room/err")" ]; then
+        passed=$((passed + 1))
+    else
+        echo "$2 $3: on standard error it says '$(cat "$room/err")' and should say '$1'"
+        failed=$((failed + 1))
+    fi
+}
+
 for scenario in examples/*.csv; do
     name=${scenario%.csv}
     case $(tail -n 1 "$name.out") in
@@ -28,6 +38,7 @@ for scenario in examples/*.csv; do
     esac
     expect "$status" "$name.out" run "$scenario"
     expect "$status" "$name.vcd" wave "$scenario"
+    says "$(tail -n 1 "$name.out" | grep '^refused,')" wave "$scenario"
     signals <"$name.out" >"$room/signals"
     expect 0 "$room/signals" unwave "$name.vcd"
 done

@@ -14,11 +14,19 @@ const FULL: usize = 50000;
 // The refusal where there is no room.
 const NO_ROOM: u64 = 41;
 
+// What was read: so many bytes; whether reading failed; whether more came than there is room for.
+struct Got {
+    n: usize,
+    failed: bool,
+    too_large: bool,
+}
+
 fn main() {
     let mut file = file_room();
+    let mut chunk = io::large_buffer();
     let mut signals = signals_room();
     let mut out = io::large_buffer();
-    read_and_print(&mut file, &mut signals, &mut out);
+    read_and_print(&mut file, &mut chunk, &mut signals, &mut out);
 }
 
 // What the limits leave room for. The `ensures` give only the lengths, which lending the arrays needs.
@@ -35,29 +43,45 @@ fn signals_room() -> [u64; 32768]
 }
 
 // A read that fails is not the end of the input: what was cut off there might be another waveform.
-fn read_and_print(file: &mut [u8], signals: &mut [u64], out: &mut [u8]) {
-    let n = io::read_full(STDIN_FILENO, file);
-    let more = read_more();
-    if cut_off(n, file.len(), more) {
+fn read_and_print(file: &mut [u8], chunk: &mut [u8], signals: &mut [u64], out: &mut [u8]) {
+    let got = read_file(file, chunk);
+    if got.failed {
         io::write_all(
             STDERR_FILENO,
             b"unwave: the input could not be read to its end, so nothing is printed\n",
         );
         return;
     }
-    let answer = read_signals(chunks::front(file, n), 0 < more, signals);
+    let answer = read_signals(chunks::front(file, got.n), got.too_large, signals);
     print(answer, signals, out);
 }
 
-// After n bytes that have room for most: a read failed, now or before that room was full.
-fn cut_off(n: usize, most: usize, more: isize) -> bool {
-    more < 0 || 0 < more && n < most
-}
-
-// Whether anything is left in the input, or reading it fails, as `read` answers.
-fn read_more() -> isize {
-    let mut rest = io::buffer();
-    libc::read(STDIN_FILENO, &mut rest)
+// Up to the end of the input, which is read once, so that at a terminal it is said once; or as far as there is room.
+fn read_file(file: &mut [u8], chunk: &mut [u8]) -> Got {
+    let mut n = 0;
+    // A proved loop has to end, and nothing says that the input does: it counts down from a number that no input uses up.
+    let mut left = u64::MAX;
+    while 0 < left {
+        left -= 1;
+        let got = libc::read(STDIN_FILENO, chunk);
+        if got <= 0 {
+            return Got {
+                n,
+                failed: got < 0,
+                too_large: false,
+            };
+        }
+        let m = text::put_bytes(file, n, chunks::front(chunk, io::count(got, chunk)));
+        if m == n {
+            break;
+        }
+        n = m;
+    }
+    Got {
+        n,
+        failed: false,
+        too_large: true,
+    }
 }
 
 fn read_signals(file: &[u8], too_large: bool, signals: &mut [u64]) -> Answer {

@@ -8,7 +8,7 @@ use Rattle.blocks.specs.Wave.{after, changes, close, waveform}
 use Rattle.vcd.specs.Trace.{rowSignals, signalsIn, words}
 use Rattle.vcd.specs.Write.{anyHigh, wrong, written, writtenIn}
 use Rattle.vcd.specs.Read.{digitsAhead, bitsAhead, signalsAhead, starts, blockAt, rowsFound, found, read, readIn}
-use Rattle.vcd.specs.Edges.{CaseA, FoundEdges, LastTime, ReadEdges, WrittenEdges}
+use Rattle.vcd.specs.Edges.{CaseA, FoundEdges, LastTime, FlagUp, ReadEdges, WrittenEdges}
 
 pub case-a : CaseA
 unfolding signalsIn rowSignals waveform after changes close front opening dump changed change timeLine excLine rcLine text digitsTo binary
@@ -22,10 +22,14 @@ pub last-time : LastTime
 unfolding blockAt signalsAhead digitsAhead more starts changed timeLine text digitsTo
 last-time = (refl, refl)
 
+pub flag-up : FlagUp
+unfolding signalsIn rowSignals waveform after changes close front opening dump changed change timeLine excLine rcLine text digitsTo binary
+flag-up = refl
+
 pub read-edges : ReadEdges
 unfolding read readIn words found rowsFound signalsAhead bitsAhead starts waveform after changes close front opening dump excLine rcLine binary digitsTo
-read-edges = (refl, refl, refl)
+read-edges = (refl, refl, refl, refl)
 
 pub written-edges : WrittenEdges
 unfolding written writtenIn wrong anyHigh signalsIn rowSignals waveform after changes close front opening dump excLine rcLine binary digitsTo
-written-edges = (refl, refl, refl)
+written-edges = (refl, refl, refl, refl, refl)

@@ -14,7 +14,7 @@ use Rattle.blocks.specs.declared.Signals.{Signals}
 use Rattle.vcd.specs.Trace.{signalsIn, Lendable, words}
 use Rattle.vcd.specs.Write.{noRoom, noTrace, done, refusedBy, wrong, fileOf, written, writtenIn}
 use Rattle.vcd.specs.Read.{Found, None, Some, found, readAs, read, readIn}
-use Rattle.vcd.specs.Exact.{Different, WrittenIsRead, Writer43, Writer41, Reader42, TooMany, Reader41, ReaderTakes, RefusedWriter, RefusedReader, BytesBehind}
+use Rattle.vcd.specs.Exact.{Different, WrittenIsRead, Writer43, Writer41, WriterTakes, Reader42, TooMany, Reader41, ReaderTakes, RefusedWriter, RefusedReader, BytesBehind}
 use Rattle.vcd.specs.declared.Answer.{Answer}
 use Rattle.vcd.proofs.FindsAll.{finds-all}
 use Rattle.vcd.proofs.FindsOnly.{none-some, some-same, finds-only}
@@ -86,6 +86,12 @@ module _ (trace : List ℕ) (s : Signals) (out : List ℕ) (h : written trace s 
 
   behind-file : let n = written trace s (length out) .n in drop n (writtenIn trace s out) ≡ drop n out
   behind-file = rw stored-file (stored-behind (fileOf trace s) out (written trace s (length out) .n) file-length room-at)
+
+pub writer-takes : WriterTakes
+unfolding written
+writer-takes trace s out right room =
+    let is : written trace s (length out) ≡ done (length (fileOf trace s)) = rw (right, le-leb (length (fileOf trace s)) (length out) room) in
+    (is, ap (λ (a : Answer). take (a .n) (writtenIn trace s out)) (sym is) ∙ written-file trace s out (ap (λ (a : Answer). a .refused) is))
 
 pub refused-writer : RefusedWriter
 unfolding writtenIn

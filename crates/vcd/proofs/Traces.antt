@@ -1,16 +1,22 @@
--- The signals of a trace that the writer takes can be lent, and all signals that can be lent are those of such a trace. Assumes nothing.
-use Prim.Native.Nat.{ℕ, zero, suc, _*_, _/_, _%_, _^_, _<_, _≤_}
-use mathlib.Core.Bool.{Bool, true, false, _||_, not, true≢false}
-use mathlib.Core.Path.{_≡_, refl, ap}
+-- The signals of a trace that the writer takes can be lent, and all signals that can be lent are those of such a trace; which traces it takes; and
+-- the signals of the words that a run writes. Assumes nothing.
+use Prim.Native.Nat.{ℕ, zero, suc, _+_, _*_, _/_, _%_, _^_, _<_, _≤_}
+use mathlib.Core.Bool.{Bool, true, false, _||_, not, false≢true, true≢false}
+use mathlib.Core.Path.{_≡_, refl, ap, _∙_}
+use mathlib.Core.Logic.{_≢_, _⊎_, inl, inr, Iff·trans}
 use mathlib.Core.List.{List, [], _∷_}
 use native.Mathlib.Omega.{arith}
-use borrow.Author.Tests.{ltb-false, le-ltb}
+use borrow.Author.Tests.{ltb-false, le-ltb, eqb-false, ne-eqb}
 use lib.Dec.{eqb, ltb}
 use lib.ListN.{length, getD, drop}
+use lib.Seq.{getD-drop}
+use Rattle.machine.specs.Run.{wordsOf}
+use Rattle.machine.specs.declared.Row.{Row}
+use Rattle.machine.proofs.Every.{Says, says-ltb, says-not, or-either}
 use Rattle.blocks.specs.declared.Signals.{Signals}
-use Rattle.vcd.specs.Trace.{rowWords, rowSignals, signalsIn, Wired, AllWired}
+use Rattle.vcd.specs.Trace.{rowWords, rowSignals, signalsIn, ofRow, ofRows, Wired, AllWired}
 use Rattle.vcd.specs.Write.{anyHigh, wrong}
-use Rattle.vcd.specs.Exact.{AllBelow, TraceLendable, EachHasTrace}
+use Rattle.vcd.specs.Exact.{OfWords, AllBelow, TraceLendable, EachHasTrace, WrongExactly}
 
 -- ---- neither of two tests
 neither-left : (a b : Bool) → (a || b) ≡ false → a ≡ false
@@ -105,3 +111,51 @@ trace-right s xs f w =
 pub each-has-trace : EachHasTrace
 each-has-trace s xs h =
     (traceOf xs, omega (arith, trace-length xs, h .few), trace-below xs (h .rows), trace-right s xs (h .first) (h .rows), trace-signals xs)
+
+-- ---- the words of rows
+words-length : (rows : List Row) → length (wordsOf rows) ≡ length rows * 6
+unfolding wordsOf
+words-length [] = refl
+words-length (row ∷ rows) = omega (arith, words-length rows)
+
+words-rows : (rows : List Row) → rowSignals (length rows) (wordsOf rows) ≡ ofRows rows
+unfolding wordsOf rowSignals ofRows
+words-rows [] = refl
+words-rows (row ∷ rows) = ap {B = List Signals} (λ r. ofRow row ∷ r) (words-rows rows)
+
+pub of-words : OfWords
+unfolding signalsIn
+of-words rows =
+    let e : length (wordsOf rows) / rowWords ≡ length rows = omega (arith, words-length rows) in
+    rw e (words-rows rows)
+
+-- ---- what is wrong with a trace
+abbrev HighRow : ℕ → List ℕ → Type 0
+HighRow n trace = (k : ℕ) × (k < n) × (1 < getD trace (rowWords * k + 4) 0)
+
+-- the flag of a later row
+later-flag : (trace : List ℕ) (k : ℕ) → getD (drop rowWords trace) (rowWords * k + 4) 0 ≡ getD trace (rowWords * suc k + 4) 0
+later-flag trace k =
+    let e : rowWords + (rowWords * k + 4) ≡ rowWords * suc k + 4 = omega arith in
+    getD-drop rowWords trace (rowWords * k + 4) 0 ∙ rw e
+
+says-high : (n : ℕ) (trace : List ℕ) → Says (anyHigh (rowSignals n trace)) (HighRow n trace)
+unfolding rowSignals anyHigh
+says-high zero trace = (λ t. absurd (false≢true t), λ (k, few, high). absurd (omega (arith, few)))
+says-high (suc n) trace = Iff·trans (or-either (says-ltb 1 (getD trace 4 0)) (says-high n (drop rowWords trace))) (join, part)
+  where
+    join : (1 < getD trace 4 0) ⊎ HighRow n (drop rowWords trace) → HighRow (suc n) trace
+    join (inl high) = (0, omega arith, high)
+    join (inr (k, few, high)) = (suc k, omega (arith, few), rw (← later-flag trace k) high)
+
+    part : HighRow (suc n) trace → (1 < getD trace 4 0) ⊎ HighRow n (drop rowWords trace)
+    part (zero, few, high) = inl high
+    part (suc k, few, high) = inr (k, omega (arith, few), rw (later-flag trace k) high)
+
+says-ne : (a b : ℕ) → Says (not (eqb a b)) (a ≢ b)
+says-ne a b = Iff·trans (says-not (eqb a b)) (eqb-false a b, ne-eqb a b)
+
+pub wrong-exactly : WrongExactly
+unfolding wrong signalsIn anyHigh
+wrong-exactly trace s =
+    or-either (says-ne (length trace % rowWords) 0) (or-either (says-ltb 1 (s .exc)) (says-high (length trace / rowWords) trace))

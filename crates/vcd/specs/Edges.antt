@@ -57,12 +57,23 @@ FoundEdges =
 abbrev pub LastTime : Type 0
 LastTime = (blockAt 0 none (timeLine mostRows) .good ≡ true) × (blockAt 0 none (timeLine (mostRows + 1)) .good ≡ false)
 
--- ---- read: two words are room for the signals of time 0 alone, which are no row; in a refusal the list stays
+-- a row's flag is its fifth word, its count the sixth: access 7 puts the flag up while two readers are counted
+abbrev pub FlagUp : Type 0
+FlagUp = fileOf (3 ∷ 7 ∷ 0 ∷ 1 ∷ 1 ∷ 2 ∷ []) (record { exc = 0; rc = 2 }) ≡ front (record { exc = 0; rc = 2 }) ++ bytes "#1\n1e\n"
+
+-- ---- read: two words are room for the signals of time 0 alone, which are no row, and the word behind them stays; in a refusal all stay
 abbrev pub ReadEdges : Type 0
 ReadEdges =
-    (read (waveform five []) 2 ≡ done 0) × (read (waveform five []) 1 .refused ≡ 41) × (readIn (waveform five []) (7 ∷ []) ≡ 7 ∷ [])
+    (read (waveform five []) 2 ≡ done 0)
+    × (readIn (waveform (record { exc = 1; rc = 5 }) []) (7 ∷ 7 ∷ 7 ∷ []) ≡ 1 ∷ 5 ∷ 7 ∷ [])
+    × (read (waveform five []) 1 .refused ≡ 41)
+    × (readIn (waveform five []) (7 ∷ []) ≡ 7 ∷ [])
 
--- ---- written: a flag of 2, no whole row in a list without room; in a refusal the list stays
+-- ---- written: 152 bytes are just room for no rows; a flag of 2, no whole row in a list without room; in a refusal the list stays
 abbrev pub WrittenEdges : Type 0
 WrittenEdges =
-    (wrong [] (record { exc = 2; rc = 0 }) ≡ true) × (written (1 ∷ []) none 0 .refused ≡ 43) × (writtenIn (1 ∷ []) none (7 ∷ []) ≡ 7 ∷ [])
+    (written [] none 152 ≡ done 152)
+    × (written [] none 151 .refused ≡ 41)
+    × (wrong [] (record { exc = 2; rc = 0 }) ≡ true)
+    × (written (1 ∷ []) none 0 .refused ≡ 43)
+    × (writtenIn (1 ∷ []) none (7 ∷ []) ≡ 7 ∷ [])

@@ -1,13 +1,15 @@
 -- What is claimed of the writer and the reader: the reader takes exactly what the writer writes for some signals, and gives them back.
-use Prim.Native.Nat.{ℕ, _+_, _*_, _%_, _^_, _<_, _≤_}
+use Prim.Native.Nat.{ℕ, _+_, _*_, _/_, _%_, _^_, _<_, _≤_}
 use mathlib.Core.Path.{_≡_}
 use mathlib.Core.Logic.{_≢_, _⊎_}
 use mathlib.Core.Bool.{true, false}
 use mathlib.Core.List.{List, [], _∷_}
-use lib.ListN.{length, take, drop}
+use lib.ListN.{length, getD, take, drop}
+use Rattle.machine.specs.Run.{wordsOf}
+use Rattle.machine.specs.declared.Row.{Row}
 use Rattle.blocks.specs.Wave.{waveform}
 use Rattle.blocks.specs.declared.Signals.{Signals}
-use Rattle.vcd.specs.Trace.{signalsIn, Lendable, words}
+use Rattle.vcd.specs.Trace.{rowWords, signalsIn, ofRows, Lendable, words}
 use Rattle.vcd.specs.Write.{wrong, fileOf, written, writtenIn}
 use Rattle.vcd.specs.Read.{Some, found, read, readIn}
 use Rattle.vcd.specs.declared.Answer.{Answer}
@@ -29,6 +31,10 @@ Different =
     (s s′ : Signals) (xs xs′ : List Signals) → Lendable s xs → Lendable s′ xs′ → waveform s xs ≡ waveform s′ xs′ → (s ≡ s′) × (xs ≡ xs′)
 
 -- ---- traces and signals
+-- the signals of the words that a run writes are the flag and the count of its rows
+abbrev pub OfWords : Type 0
+OfWords = (rows : List Row) → signalsIn (wordsOf rows) ≡ ofRows rows
+
 -- the signals of a trace that the writer takes can be lent; words are below 2 ^ 64, and a list has fewer than 2 ^ 64 of them
 abbrev pub AllBelow : List ℕ → Type 0
 AllBelow [] = Unit {0}
@@ -58,6 +64,15 @@ WrittenIsRead =
     × (take (2 * (length (signalsIn trace) + 1)) (readIn file into) ≡ words (s ∷ signalsIn trace))
 
 -- ---- the numbers, each exactly where it is due
+-- what is wrong with a trace: no whole rows, a starting flag above 1, or a row's
+abbrev pub Wrong : List ℕ → Signals → Type 0
+Wrong trace s =
+    (length trace % rowWords ≢ 0)
+    ⊎ ((1 < s .exc) ⊎ ((k : ℕ) × (k < length trace / rowWords) × (1 < getD trace (rowWords * k + 4) 0)))
+
+abbrev pub WrongExactly : Type 0
+WrongExactly = (trace : List ℕ) (s : Signals) → (wrong trace s ≡ true → Wrong trace s) × (Wrong trace s → wrong trace s ≡ true)
+
 abbrev pub Writer43 : Type 0
 Writer43 = (trace : List ℕ) (s : Signals) (room : ℕ) → (written trace s room .refused ≡ 43 → wrong trace s ≡ true) × (wrong trace s ≡ true → written trace s room .refused ≡ 43)
 
@@ -66,6 +81,13 @@ Writer41 =
     (trace : List ℕ) (s : Signals) (room : ℕ)
     → (written trace s room .refused ≡ 41 → (wrong trace s ≡ false) × (room < length (fileOf trace s)))
     × (wrong trace s ≡ false → room < length (fileOf trace s) → written trace s room .refused ≡ 41)
+
+-- otherwise it is written: so many bytes, and they are the text
+abbrev pub WriterTakes : Type 0
+WriterTakes =
+    (trace : List ℕ) (s : Signals) (out : List ℕ) → wrong trace s ≡ false → length (fileOf trace s) ≤ length out
+    → let n = length (fileOf trace s) in
+    (written trace s (length out) ≡ record { refused = 0; n = n }) × (take n (writtenIn trace s out) ≡ fileOf trace s)
 
 -- the file has no signals
 abbrev pub NoSignals : List ℕ → Type 0

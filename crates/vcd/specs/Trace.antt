@@ -2,6 +2,7 @@
 use Prim.Native.Nat.{ℕ, zero, suc, _+_, _-_, _*_, _/_, _^_, _<_, _≤_}
 use mathlib.Core.List.{List, [], _∷_}
 use lib.ListN.{length, getD, drop}
+use Rattle.machine.specs.declared.Row.{Row}
 use Rattle.blocks.specs.declared.Signals.{Signals}
 
 -- the words of a row: thread, access, answer, got, exc, rc
@@ -15,6 +16,14 @@ rowSignals (suc n) trace = record { exc = getD trace 4 0; rc = getD trace 5 0 } 
 
 unfoldable pub signalsIn : List ℕ → List Signals
 signalsIn trace = rowSignals (length trace / rowWords) trace
+
+-- ---- the signals of rows
+abbrev pub ofRow : Row → Signals
+ofRow row = record { exc = row .exc; rc = row .rc }
+
+unfoldable pub ofRows : List Row → List Signals
+ofRows [] = []
+ofRows (row ∷ rows) = ofRow row ∷ ofRows rows
 
 -- ---- what can be lent
 -- a list has fewer than 2 ^ 64 words

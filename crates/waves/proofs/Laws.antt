@@ -1,8 +1,8 @@
 -- The bytes of a scenario file's trace write the waveform of its rows: the header and the refusal write nothing, and each row writes what it
 -- changes. Assumes nothing.
-use Prim.Native.Nat.{ℕ, _+_, _%_, _^_, _<_}
+use Prim.Native.Nat.{ℕ, suc, _+_, _%_, _^_, _<_, _≤_}
 use mathlib.Core.Bool.{Bool, true, false, cond}
-use mathlib.Core.Path.{_≡_, refl, _∙_}
+use mathlib.Core.Path.{_≡_, refl, ap, _∙_}
 use mathlib.Core.List.{List, [], _∷_, _++_, append-nil}
 use native.Mathlib.Omega.{arith}
 use lib.Dec.{eqb}
@@ -15,8 +15,10 @@ use Rattle.scenario.specs.Printed.{Reading, start, next as nextLine, ended, row
 use Rattle.blocks.specs.Wave.{atFirst, next, after, changes, waveform}
 use Rattle.blocks.specs.declared.Signals.{Signals}
 use Rattle.blocks.specs.declared.Wave.{Wave}
+use Rattle.vcd.specs.Trace.{mostRows, AllWired, ofRow, ofRows}
+use Rattle.vcd.proofs.FindsAll.{finds-all}
 use Rattle.waves.specs.Waves.{timeOf, counted, leftBy, textBy}
-use Rattle.waves.specs.Laws.{unlocked, ofRow, ofRows, Fit, WaveOfFile}
+use Rattle.waves.specs.Laws.{unlocked, fileRows, Fit, WaveOfFile, FoundInWave}
 use Rattle.waves.proofs.Calls.{cut-anywhere}
 use Rattle.waves.proofs.Rows.{Quiet, quiet-before, atStart, nothing-quiet, a-row, header-quiet, refusal-quiet}
 use Rattle.waves.proofs.Fits.{file-fits}
@@ -63,3 +65,21 @@ wave-of-file file h =
     let r = ended (whole nextLine start file) in
     let (left, text) = output-read r (atFirst unlocked) (file-fits file) (omega arith) in
     rw (left, text) refl
+
+-- ---- read back
+rows-wired : (rows : List Row) → Fit rows → AllWired (ofRows rows)
+unfolding Fit ofRows
+rows-wired [] fit = tt
+rows-wired (row ∷ rows) (exc, rc, fit) = (record { one = exc; wide = rc }, rows-wired rows fit)
+
+of-length : (rows : List Row) → length (ofRows rows) ≡ length rows
+unfolding ofRows
+of-length [] = refl
+of-length (row ∷ rows) = ap suc (of-length rows)
+
+pub found-in-wave : FoundInWave
+found-in-wave file few =
+    let rows = fileRows file in
+    rw (wave-of-file file (omega (arith, few)))
+    (finds-all unlocked (ofRows rows)
+    (record { first = record { one = omega arith; wide = omega arith }; rows = rows-wired rows (file-fits file); few = omega (arith, few, of-length rows) }))

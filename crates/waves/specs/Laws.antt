@@ -12,6 +12,8 @@ use Rattle.scenario.specs.Printed.{next, start, ended, rowsOf, printed}
 use Rattle.blocks.specs.Blocks.{front, changeBytes}
 use Rattle.blocks.specs.Wave.{close, waveform}
 use Rattle.blocks.specs.declared.Signals.{Signals}
+use Rattle.vcd.specs.Trace.{mostRows, ofRows}
+use Rattle.vcd.specs.Read.{Some, found}
 use Rattle.waves.specs.Waves.{Taking, freshOf, leftBy, textBy, takes}
 use Rattle.waves.specs.declared.State.{State}
 
@@ -45,13 +47,6 @@ CutAnywhere =
 abbrev pub unlocked : Signals
 unlocked = record { exc = 0; rc = 0 }
 
-abbrev pub ofRow : Row → Signals
-ofRow row = record { exc = row .exc; rc = row .rc }
-
-unfoldable pub ofRows : List Row → List Signals
-ofRows [] = []
-ofRows (row ∷ rows) = ofRow row ∷ ofRows rows
-
 -- the rows of a file: of its whole schedule, up to its refusal
 abbrev pub fileRows : List ℕ → List Row
 fileRows file = rowsOf (ended (whole next start file) .scenario)
@@ -64,9 +59,14 @@ Fit (row ∷ rows) = (row .exc ≤ 1) × (row .rc < 2 ^ 64) × Fit rows
 abbrev pub FileFits : Type 0
 FileFits = (file : List ℕ) → Fit (fileRows file)
 
--- the opening, what the trace's bytes write, and the close, are the waveform of the file's rows
+-- the opening, what the trace's bytes write, and the close
+abbrev pub waveOf : List ℕ → List ℕ
+waveOf file = let s = freshOf unlocked in front unlocked ++ (textBy s (printed file) ++ close (leftBy s (printed file) .wave))
+
+-- they are the waveform of the file's rows
 abbrev pub WaveOfFile : Type 0
-WaveOfFile =
-    (file : List ℕ) → length (fileRows file) < 2 ^ 64
-    → let s = freshOf unlocked in
-    front unlocked ++ (textBy s (printed file) ++ close (leftBy s (printed file) .wave)) ≡ waveform unlocked (ofRows (fileRows file))
+WaveOfFile = (file : List ℕ) → length (fileRows file) < 2 ^ 64 → waveOf file ≡ waveform unlocked (ofRows (fileRows file))
+
+-- and the reader finds the flag and the count of every row in it
+abbrev pub FoundInWave : Type 0
+FoundInWave = (file : List ℕ) → length (fileRows file) ≤ mostRows → found (waveOf file) ≡ Some (unlocked ∷ ofRows (fileRows file))
