@@ -1,11 +1,10 @@
 -- What is claimed of a number in binary: it is the number, of digits 0 and 1, and begins with 1 unless it is zero.
 use Prim.Native.Nat.{ℕ, _+_, _*_, _-_, _^_, _<_}
 use mathlib.Core.Path.{_≡_}
-use mathlib.Core.Bool.{Bool, true, _||_, _&&_}
+use mathlib.Core.Bool.{Bool, true, _&&_}
 use mathlib.Core.List.{List, [], _∷_}
-use lib.Dec.{eqb}
 use lib.ListN.{getD}
-use Rattle.blocks.specs.Binary.{binary}
+use Rattle.blocks.specs.Binary.{isBit, binary}
 
 -- the value of digits behind those that make v
 unfoldable pub bitsValue : ℕ → List ℕ → ℕ
@@ -14,7 +13,7 @@ bitsValue v (b ∷ l) = bitsValue (v * 2 + (b - 48)) l
 
 unfoldable pub allBits : List ℕ → Bool
 allBits [] = true
-allBits (b ∷ l) = (eqb b 48 || eqb b 49) && allBits l
+allBits (b ∷ l) = isBit b && allBits l
 
 abbrev pub IsBinary : Type 0
 IsBinary = (v : ℕ) → v < 2 ^ 64 → bitsValue 0 (binary v) ≡ v

@@ -7,12 +7,10 @@ use libc::STDERR_FILENO;
 use libc::STDIN_FILENO;
 use libc::STDOUT_FILENO;
 use vcd::Answer;
+use vcd::NO_ROOM;
 
 // So many bytes of text are written at once; behind them the list has room for a line.
 const FULL: usize = 50000;
-
-// The refusal where there is no room.
-const NO_ROOM: u64 = 41;
 
 // What was read: so many bytes; whether reading failed; whether more came than there is room for.
 struct Got {

@@ -14,7 +14,7 @@ use Rattle.blocks.specs.declared.Signals.{Signals}
 use Rattle.vcd.specs.Trace.{signalsIn, Lendable, words}
 use Rattle.vcd.specs.Write.{noRoom, noTrace, done, refusedBy, wrong, fileOf, written, writtenIn}
 use Rattle.vcd.specs.Read.{Found, None, Some, found, readAs, read, readIn}
-use Rattle.vcd.specs.Exact.{Different, WrittenIsRead, Writer43, Writer41, WriterTakes, Reader42, TooMany, Reader41, ReaderTakes, RefusedWriter, RefusedReader, BytesBehind}
+use Rattle.vcd.specs.Exact.{Different, WrittenIsRead, Writer43, Writer41, WriterTakes, Reader42, TooMany, Reader41, ReaderTakes, ReaderOnly, RefusedWriter, RefusedReader, BytesBehind}
 use Rattle.vcd.specs.declared.Answer.{Answer}
 use Rattle.vcd.proofs.FindsAll.{finds-all}
 use Rattle.vcd.proofs.FindsOnly.{none-some, some-same, finds-only}
@@ -189,6 +189,29 @@ reader-takes s xs into h room =
       reads s xs into h room,
       rw (stores s xs into h room) (stored-first (words (s ∷ xs)) into n (long s xs into h room) room),
       rw (stores s xs into h room) (stored-behind (words (s ∷ xs)) into n (long s xs into h room) room),
+    )
+
+-- what was taken was found, and has room
+found-by : (f : Found) (room : ℕ) → readAs f room .refused ≡ 0 → (all : List Signals) × (f ≡ Some all) × (2 * length all ≤ room)
+found-by None room h = absurd (omega (arith, h))
+found-by (Some all) room h = (all, refl, by-room (leb (2 * length all) room) refl h)
+  where
+    by-room : (t : Bool) → leb (2 * length all) room ≡ t → cond t (done (length all - 1)) (refusedBy noRoom) .refused ≡ 0 → 2 * length all ≤ room
+    by-room true e h = leb-true (2 * length all) room e
+    by-room false e h = absurd (omega (arith, h))
+
+pub reader-only : ReaderOnly
+unfolding read
+reader-only file into h =
+    let (all, is, room) = found-by (found file) (length into) h in
+    let (s, xs, parts, lendable, text) = finds-only file all is in
+    let r = reader-takes s xs into lendable (omega (arith, room, ap length parts)) in (
+      s,
+      xs,
+      lendable,
+      text,
+      ap (λ (l : List ℕ). read l (length into) .n) text ∙ ap (λ (a : Answer). a .n) (r .0),
+      ap (λ (l : List ℕ). take (2 * (length xs + 1)) (readIn l into)) text ∙ r .1,
     )
 
 pub written-is-read : WrittenIsRead

@@ -12,7 +12,8 @@ use lib.Seq.{drop-cons, drop-length}
 use Rattle.lines.specs.Number.{more}
 use Rattle.lines.specs.declared.Parsed.the-variants.{No, Is}
 use Rattle.blocks.specs.declared.Signals.{Signals}
-use Rattle.vcd.specs.Read.{digitsAhead, isBit, bitsAhead, rcAhead, signalsAhead, starts}
+use Rattle.blocks.specs.Binary.{isBit}
+use Rattle.vcd.specs.Read.{digitsAhead, bitsAhead, rcAhead, signalsAhead, starts}
 
 -- ---- a place behind the end
 pub none-there : (l : List ℕ) (n : ℕ) → length l < n → drop (length l) l ≡ drop n l

@@ -9,8 +9,8 @@ use Rattle.lines.specs.Number.{more}
 use Rattle.lines.specs.declared.Parsed.the-variants.{Is}
 use Rattle.text.specs.Number.{text}
 use Rattle.text.proofs.Values.{taken}
-use Rattle.blocks.specs.Binary.{binary}
-use Rattle.vcd.specs.Read.{isBit, digitsAhead, bitsAhead}
+use Rattle.blocks.specs.Binary.{isBit, binary}
+use Rattle.vcd.specs.Read.{digitsAhead, bitsAhead}
 
 -- ---- decimal
 less-48 : (d : ℕ) → 48 + d - 48 ≡ d

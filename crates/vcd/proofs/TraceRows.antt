@@ -8,12 +8,13 @@ use lib.Dec.{eqb}
 use lib.ListN.{length, getD, drop}
 use lib.Seq.{getD-drop, drop-drop}
 use borrow.Author.Tests.{lt-ltb, le-ltb}
+use Rattle.machine.specs.Names.{rowWords}
 use Rattle.blocks.specs.Blocks.{timeLine, change, timeBytes}
 use Rattle.blocks.specs.Wave.{next, after, changes, close}
 use Rattle.blocks.specs.declared.Signals.{Signals}
 use Rattle.blocks.specs.declared.Wave.{Wave}
 use Rattle.blocks.proofs.Laws.{short}
-use Rattle.vcd.specs.Trace.{rowWords, rowSignals, signalsIn}
+use Rattle.vcd.specs.Trace.{rowSignals, signalsIn}
 use Rattle.vcd.specs.Write.{anyHigh}
 use Rattle.vcd.specs.Walk.{restOf}
 

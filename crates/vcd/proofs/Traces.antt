@@ -10,11 +10,12 @@ use borrow.Author.Tests.{ltb-false, le-ltb, eqb-false, ne-eqb}
 use lib.Dec.{eqb, ltb}
 use lib.ListN.{length, getD, drop}
 use lib.Seq.{getD-drop}
+use Rattle.machine.specs.Names.{rowWords}
 use Rattle.machine.specs.Run.{wordsOf}
 use Rattle.machine.specs.declared.Row.{Row}
 use Rattle.machine.proofs.Every.{Says, says-ltb, says-not, or-either}
 use Rattle.blocks.specs.declared.Signals.{Signals}
-use Rattle.vcd.specs.Trace.{rowWords, rowSignals, signalsIn, ofRow, ofRows, Wired, AllWired}
+use Rattle.vcd.specs.Trace.{rowSignals, signalsIn, ofRow, ofRows, Wired, AllWired}
 use Rattle.vcd.specs.Write.{anyHigh, wrong}
 use Rattle.vcd.specs.Exact.{OfWords, AllBelow, TraceLendable, EachHasTrace, WrongExactly}
 

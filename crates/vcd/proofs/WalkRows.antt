@@ -6,11 +6,12 @@ use mathlib.Core.Bool.{Bool, true}
 use mathlib.Core.List.{List, _∷_, _++_}
 use native.Mathlib.Omega.{arith}
 use lib.ListN.{length}
+use Rattle.machine.specs.Names.{rowWords}
 use Rattle.blocks.specs.Blocks.{front, change}
 use Rattle.blocks.specs.Wave.{atFirst, next, close, waveform}
 use Rattle.blocks.specs.declared.Signals.{Signals}
 use Rattle.blocks.specs.declared.Wave.{Wave}
-use Rattle.vcd.specs.Trace.{rowWords, signalsIn}
+use Rattle.vcd.specs.Trace.{signalsIn}
 use Rattle.vcd.specs.Write.{fileOf}
 use Rattle.vcd.specs.Walk.{restOf, told, passes}
 use Rattle.vcd.specs.declared.Answer.{Answer}

@@ -9,7 +9,8 @@ use lib.Dec.{eqb, ltb}
 use lib.ListN.{getD, drop}
 use Rattle.blocks.specs.declared.Signals.{Signals}
 use Rattle.vcd.specs.Trace.{Wired}
-use Rattle.vcd.specs.Read.{isBit, bitsAhead, behindExc, signalsAhead}
+use Rattle.blocks.specs.Binary.{isBit}
+use Rattle.vcd.specs.Read.{bitsAhead, behindExc, signalsAhead}
 
 -- ---- both of two tests
 pub both-left : (a b : Bool) → (a && b) ≡ true → a ≡ true

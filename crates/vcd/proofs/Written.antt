@@ -9,8 +9,9 @@ use lib.Dec.{T, leb}
 use lib.ListN.{length}
 use lib.Seq.{sets}
 use borrow.Author.Tests.{leb-true, eq-eqb, ne-eqb, lt-ltb, le-ltb}
+use Rattle.machine.specs.Names.{rowWords}
 use Rattle.blocks.specs.declared.Signals.{Signals}
-use Rattle.vcd.specs.Trace.{rowWords, signalsIn}
+use Rattle.vcd.specs.Trace.{signalsIn}
 use Rattle.vcd.specs.Write.{noTrace, refusedBy, anyHigh, wrong, fileOf, written, writtenIn}
 use Rattle.vcd.specs.Walk.{told}
 use Rattle.vcd.specs.declared.Answer.{Answer}

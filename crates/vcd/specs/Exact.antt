@@ -5,11 +5,12 @@ use mathlib.Core.Logic.{_≢_, _⊎_}
 use mathlib.Core.Bool.{true, false}
 use mathlib.Core.List.{List, [], _∷_}
 use lib.ListN.{length, getD, take, drop}
+use Rattle.machine.specs.Names.{rowWords}
 use Rattle.machine.specs.Run.{wordsOf}
 use Rattle.machine.specs.declared.Row.{Row}
 use Rattle.blocks.specs.Wave.{waveform}
 use Rattle.blocks.specs.declared.Signals.{Signals}
-use Rattle.vcd.specs.Trace.{rowWords, signalsIn, ofRows, Lendable, words}
+use Rattle.vcd.specs.Trace.{signalsIn, ofRows, Lendable, words}
 use Rattle.vcd.specs.Write.{wrong, fileOf, written, writtenIn}
 use Rattle.vcd.specs.Read.{Some, found, read, readIn}
 use Rattle.vcd.specs.declared.Answer.{Answer}
@@ -111,6 +112,16 @@ ReaderTakes =
     (read file (length into) ≡ record { refused = 0; n = length xs })
     × (take (2 * (length xs + 1)) (readIn file into) ≡ words (s ∷ xs))
     × (drop (2 * (length xs + 1)) (readIn file into) ≡ drop (2 * (length xs + 1)) into)
+
+-- and whatever is read is the text of the signals that are given: so many rows, and these words
+abbrev pub ReaderOnly : Type 0
+ReaderOnly =
+    (file into : List ℕ) → read file (length into) .refused ≡ 0
+    → (s : Signals) × (xs : List Signals)
+    × Lendable s xs
+    × (file ≡ waveform s xs)
+    × (read file (length into) .n ≡ length xs)
+    × (take (2 * (length xs + 1)) (readIn file into) ≡ words (s ∷ xs))
 
 -- in a refusal nothing is written
 abbrev pub RefusedWriter : Type 0

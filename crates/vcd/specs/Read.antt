@@ -9,6 +9,7 @@ use lib.Seq.{sets}
 use Rattle.lines.specs.Number.{more}
 use Rattle.lines.specs.declared.Parsed.{Parsed}
 use Rattle.lines.specs.declared.Parsed.the-variants.{No, Is}
+use Rattle.blocks.specs.Binary.{isBit}
 use Rattle.blocks.specs.Blocks.{timeLine, front, same, changed}
 use Rattle.blocks.specs.declared.Signals.{Signals}
 use Rattle.vcd.specs.Trace.{mostRows, words}
@@ -29,9 +30,6 @@ orStay v (Is x) k = k x
 unfoldable pub digitsAhead : ℕ → List ℕ → ℕ
 digitsAhead v [] = v
 digitsAhead v (b ∷ l) = orStay v (more v b) (λ x. digitsAhead x l)
-
-abbrev pub isBit : ℕ → Bool
-isBit b = eqb b 48 || eqb b 49
 
 unfoldable pub bitsAhead : ℕ → List ℕ → ℕ
 bitsAhead v [] = v

@@ -2,14 +2,11 @@
 use Prim.Native.Nat.{ℕ, zero, suc, _+_, _-_, _*_, _/_, _^_, _<_, _≤_}
 use mathlib.Core.List.{List, [], _∷_}
 use lib.ListN.{length, getD, drop}
+use Rattle.machine.specs.Names.{rowWords}
 use Rattle.machine.specs.declared.Row.{Row}
 use Rattle.blocks.specs.declared.Signals.{Signals}
 
--- the words of a row: thread, access, answer, got, exc, rc
-abbrev pub rowWords : ℕ
-rowWords = 6
-
--- after each of n rows
+-- after each of n rows, whose words are thread, access, answer, got, exc, rc
 unfoldable pub rowSignals : ℕ → List ℕ → List Signals
 rowSignals zero trace = []
 rowSignals (suc n) trace = record { exc = getD trace 4 0; rc = getD trace 5 0 } ∷ rowSignals n (drop rowWords trace)

@@ -2,7 +2,8 @@
 ghost use Prim.Native.Nat.{_-_, _≤_};
 ghost use mathlib.Core.Path.{_≡_};
 ghost use lib.ListN.{getD, drop};
-ghost use Rattle.vcd.specs.Read.{isBit, digitsAhead, bitsAhead, rcAhead, signalsAhead};
+ghost use Rattle.blocks.specs.Binary.{isBit};
+ghost use Rattle.vcd.specs.Read.{digitsAhead, bitsAhead, rcAhead, signalsAhead};
 use blocks::Signals;
 use lines::Parsed;
 use lines::number;

@@ -10,6 +10,7 @@ ghost use Rattle.blocks.specs.Blocks.{front};
 ghost use Rattle.vcd.specs.Trace.{mostRows};
 ghost use Rattle.vcd.specs.Read.{starts, blockAt, behind, rowsFound, readAs, wordsOf, read, readIn};
 use super::Answer;
+use super::NO_ROOM;
 use super::ahead;
 use super::fill;
 use blocks::CHANGE;
@@ -21,8 +22,6 @@ const MOST: u64 = 3074457345618258602;
 
 // Where the signals of time 0 stand.
 const DUMP: usize = 139;
-
-const NO_ROOM: u64 = 41;
 
 const NO_WAVE: u64 = 42;
 

@@ -9,13 +9,12 @@ ghost use Rattle.vcd.specs.Trace.{signalsIn};
 ghost use Rattle.vcd.specs.Write.{anyHigh, wrong, fileOf, written, writtenIn};
 ghost use Rattle.vcd.specs.Walk.{restOf, told, keeps, passes};
 use super::Answer;
+use super::NO_ROOM;
 use blocks::CHANGE;
 use blocks::FRONT;
 use blocks::Signals;
 use blocks::TIME;
 use blocks::Wave;
-
-const NO_ROOM: u64 = 41;
 
 const NO_TRACE: u64 = 43;
 

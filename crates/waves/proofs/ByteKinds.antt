@@ -5,13 +5,14 @@ use mathlib.Core.Path.{_≡_, refl, sym, ap, _∙_}
 use native.Mathlib.Omega.{arith}
 use borrow.Author.Tests.{eq-eqb, ne-eqb}
 use Rattle.lines.specs.Number.{digit}
-use Rattle.waves.specs.Seen.{feedLine, onDigit, onComma, onOther, within}
+use Rattle.lines.specs.Lines.{lf}
+use Rattle.waves.specs.Seen.{onDigit, onComma, onOther, within}
 use Rattle.waves.specs.declared.Seen.{Seen}
 
-pub digit-no-end : (b : ℕ) → digit b ≡ true → b ≡ feedLine → ⊥
+pub digit-no-end : (b : ℕ) → digit b ≡ true → b ≡ lf → ⊥
 digit-no-end b is e = true≢false (sym is ∙ ap (λ (x : ℕ). digit x) e)
 
-pub comma-no-end : (b : ℕ) → b ≡ 44 → b ≡ feedLine → ⊥
+pub comma-no-end : (b : ℕ) → b ≡ 44 → b ≡ lf → ⊥
 comma-no-end b is e = omega arith
 
 module _ (l : Seen) (b : ℕ) where

@@ -12,7 +12,8 @@ use lib.Seq.{drop-cons, sets, length-sets}
 use Rattle.text.specs.Put.{stored, placeAfter}
 use Rattle.blocks.specs.Blocks.{changeBytes}
 use Rattle.blocks.specs.declared.Wave.{Wave}
-use Rattle.waves.specs.Seen.{feedLine, lineStart, within}
+use Rattle.lines.specs.Lines.{lf}
+use Rattle.waves.specs.Seen.{lineStart, within}
 use Rattle.waves.specs.Waves.{taking, stateOf, onByte, byteText, takes}
 use Rattle.waves.specs.declared.Ended.{Ended}
 use Rattle.waves.specs.declared.Seen.{Seen}
@@ -34,12 +35,12 @@ module _ (trace : List ℕ) (i : ℕ) (s : State) (out : List ℕ) (n : ℕ) whe
   goes h e = rw (drop-cons trace i 0, e, add-one)
 
 -- ---- a byte that does not end a line
-within-line : (l : Seen) (p : Wave) (b : ℕ) → (b ≡ feedLine → ⊥) → (onByte (stateOf l p) b ≡ stateOf (within l b) p) × (byteText (stateOf l p) b ≡ [])
+within-line : (l : Seen) (p : Wave) (b : ℕ) → (b ≡ lf → ⊥) → (onByte (stateOf l p) b ≡ stateOf (within l b) p) × (byteText (stateOf l p) b ≡ [])
 unfolding onByte byteText
-within-line l p b h = rw (ne-eqb b feedLine h) (refl, refl)
+within-line l p b h = rw (ne-eqb b lf h) (refl, refl)
 
 module _ (trace : List ℕ) (i : ℕ) (l : Seen) (p : Wave) (out : List ℕ) (n : ℕ) where
-  pub quiet-turn : i < length trace → leb (n + changeBytes) (length out) ≡ true → (getD trace i 0 ≡ feedLine → ⊥)
+  pub quiet-turn : i < length trace → leb (n + changeBytes) (length out) ≡ true → (getD trace i 0 ≡ lf → ⊥)
       → takes (stateOf l p) (drop i trace) i out n ≡ takes (stateOf (within l (getD trace i 0)) p) (drop (i + 1) trace) (i + 1) out n
   quiet-turn h room other =
       let (left, none) = within-line l p (getD trace i 0) other in
@@ -47,14 +48,14 @@ module _ (trace : List ℕ) (i : ℕ) (l : Seen) (p : Wave) (out : List ℕ) (n 
       goes trace i (stateOf l p) out n h room ∙ rw (left, none, e) refl
 
   -- ---- a byte that does: e and o are what it leaves
-  pub line-turn : (e : Ended) (o : List ℕ) → i < length trace → leb (n + changeBytes) (length out) ≡ true → getD trace i 0 ≡ feedLine
-      → let t = byteText (stateOf l p) feedLine in
-      e ≡ record { wave = onByte (stateOf l p) feedLine .wave; at = placeAfter changeBytes out n t } → o ≡ stored changeBytes out n t
+  pub line-turn : (e : Ended) (o : List ℕ) → i < length trace → leb (n + changeBytes) (length out) ≡ true → getD trace i 0 ≡ lf
+      → let t = byteText (stateOf l p) lf in
+      e ≡ record { wave = onByte (stateOf l p) lf .wave; at = placeAfter changeBytes out n t } → o ≡ stored changeBytes out n t
       → (length o ≡ length out)
       × (takes (stateOf l p) (drop i trace) i out n ≡ takes (stateOf lineStart (e .wave)) (drop (i + 1) trace) (i + 1) o (e .at))
   unfolding onByte
   line-turn e o h room ends is left =
-      let t = byteText (stateOf l p) feedLine in
+      let t = byteText (stateOf l p) lf in
       let put : o ≡ sets out n t = rw room at left in (
         ap length put ∙ length-sets out n t,
         rw ends at (goes trace i (stateOf l p) out n h room) ∙ rw (is, room, put) refl,

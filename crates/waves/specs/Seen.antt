@@ -4,6 +4,7 @@ use Prim.Native.Nat.{ℕ, _+_, min}
 use mathlib.Core.Bool.{Bool, true, false, _&&_, not, cond}
 use mathlib.Core.List.{List, [], _∷_}
 use lib.Dec.{eqb, ltb}
+use Rattle.lines.specs.Lines.{cr, lf}
 use Rattle.lines.specs.Number.{digit, more}
 use Rattle.lines.specs.declared.Parsed.{Parsed}
 use Rattle.lines.specs.declared.Parsed.the-variants.{No, Is}
@@ -11,12 +12,6 @@ use Rattle.text.specs.Lines.{comma}
 use Rattle.blocks.specs.declared.Signals.{Signals}
 use Rattle.waves.specs.declared.Scanned.{Scanned}
 use Rattle.waves.specs.declared.Seen.{Seen}
-
-abbrev pub carriage : ℕ
-carriage = 13
-
-abbrev pub feedLine : ℕ
-feedLine = 10
 
 -- the places of exc and rc among the fields of a row
 abbrev pub excField : ℕ
@@ -56,7 +51,7 @@ onDigit l b = record { other = l .other; field = l .field; exc = l .exc; value =
 
 -- after a byte that is no digit and no comma: other than a CR it makes the line no row
 abbrev pub otherAfter : Bool → ℕ → Bool
-otherAfter other b = cond (eqb b carriage) other true
+otherAfter other b = cond (eqb b cr) other true
 
 abbrev pub onOther : Seen → ℕ → Seen
 onOther l b = record { other = otherAfter (l .other) b; field = l .field; exc = l .exc; value = l .value }
@@ -72,7 +67,7 @@ within l b = cond (digit b) (onDigit l b) (marked l b)
 -- the bytes up to the line's end, the first of which is at `from`: what they leave, and the place of the end, or that after the last byte
 unfoldable pub scanned : Seen → List ℕ → ℕ → Scanned
 scanned l [] from = record { seen = l; at = from }
-scanned l (b ∷ t) from = cond (eqb b feedLine) (record { seen = l; at = from }) (scanned (within l b) t (from + 1))
+scanned l (b ∷ t) from = cond (eqb b lf) (record { seen = l; at = from }) (scanned (within l b) t (from + 1))
 
 -- what stands before the line's end is a row, with these signals
 abbrev pub isRow : Seen → Bool

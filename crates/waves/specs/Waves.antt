@@ -9,7 +9,8 @@ use Rattle.blocks.specs.Blocks.{same, change, changeBytes}
 use Rattle.blocks.specs.Wave.{atFirst}
 use Rattle.blocks.specs.declared.Signals.{Signals}
 use Rattle.blocks.specs.declared.Wave.{Wave}
-use Rattle.waves.specs.Seen.{feedLine, lineStart, within, isRow, signalsOf}
+use Rattle.lines.specs.Lines.{lf}
+use Rattle.waves.specs.Seen.{lineStart, within, isRow, signalsOf}
 use Rattle.waves.specs.declared.Seen.{Seen}
 use Rattle.waves.specs.declared.State.{State}
 
@@ -30,12 +31,12 @@ counted p x = record { time = timeOf p; written = cond (same (p .signals) x) (p 
 -- ---- one byte
 -- it ends a row
 abbrev pub endsRow : State → ℕ → Bool
-endsRow s b = eqb b feedLine && isRow (s .seen)
+endsRow s b = eqb b lf && isRow (s .seen)
 
 unfoldable pub onByte : State → ℕ → State
 onByte s b =
     record {
-      seen = cond (eqb b feedLine) lineStart (within (s .seen) b);
+      seen = cond (eqb b lf) lineStart (within (s .seen) b);
       wave = cond (endsRow s b) (counted (s .wave) (signalsOf (s .seen))) (s .wave);
     }
 

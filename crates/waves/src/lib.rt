@@ -5,7 +5,8 @@ ghost use lib.ListN.{drop};
 ghost use Rattle.lines.specs.Number.{digit};
 ghost use Rattle.text.specs.Put.{stored, placeAfter};
 ghost use Rattle.blocks.specs.Blocks.{change, changeBytes};
-ghost use Rattle.waves.specs.Seen.{feedLine, lineStart, rcField, readBy, excAfter, otherAfter, isRow, signalsOf, scanned};
+ghost use Rattle.lines.specs.Lines.{lf};
+ghost use Rattle.waves.specs.Seen.{lineStart, rcField, readBy, excAfter, otherAfter, isRow, signalsOf, scanned};
 ghost use Rattle.waves.specs.Waves.{stateOf, freshOf, timeOf, counted, onByte, byteText, takes};
 use blocks::CHANGE;
 use blocks::Signals;
@@ -253,8 +254,8 @@ fn counted(p: Wave, x: Signals) -> Wave
 }
 
 fn end_line(seen: Seen, wave: Wave, out: &mut [u8], at: usize) -> Ended
-    ensures { λ r. let s = stateOf seen wave in ⌜ r ≡ record { wave = onByte s feedLine .wave; at = placeAfter changeBytes (now (out .entry)) at (byteText s feedLine) } ⌝ }
-    ensures { λ _. ⌜ now (out .exit) ≡ stored changeBytes (now (out .entry)) at (byteText (stateOf seen wave) feedLine) ⌝ }
+    ensures { λ r. let s = stateOf seen wave in ⌜ r ≡ record { wave = onByte s lf .wave; at = placeAfter changeBytes (now (out .entry)) at (byteText s lf) } ⌝ }
+    ensures { λ _. ⌜ now (out .exit) ≡ stored changeBytes (now (out .entry)) at (byteText (stateOf seen wave) lf) ⌝ }
 {
     if is_row(seen) {
         return end_row(seen, wave, out, at);
