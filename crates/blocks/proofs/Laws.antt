@@ -13,8 +13,8 @@ use Rattle.text.specs.Number.{text, digitsTo}
 use Rattle.text.proofs.Digits.{text-short}
 use Rattle.blocks.specs.Binary.{binary}
 use Rattle.blocks.specs.Blocks.{timeLine, excLine, rcLine, opening, dump, front, same, changed, change, timeBytes, changedBytes, changeBytes, frontBytes}
-use Rattle.blocks.specs.Wave.{atFirst, next, after, changes, close, waveform}
-use Rattle.blocks.specs.Laws.{TwoPieces, AfterBoth, InPieces, TimeIsRows, StillRows, ClosedByChange, ClosedByTime, ClosedAtFirst, Short, Edges}
+use Rattle.blocks.specs.Wave.{atFirst, next, timeOf, after, changes, close, waveform}
+use Rattle.blocks.specs.Laws.{TwoPieces, AfterBoth, InPieces, TimeIsRows, CountedIsNext, StillRows, ClosedByChange, ClosedByTime, ClosedAtFirst, Short, Edges}
 use Rattle.blocks.specs.declared.Signals.{Signals}
 use Rattle.blocks.specs.declared.Wave.{Wave}
 use Rattle.blocks.proofs.Bits.{bits-short}
@@ -94,6 +94,9 @@ unfolding after
 still-after p zero = later-none p
 still-after p (suc n) =
     ap (λ (q : Wave). after q (replicate n (p .signals))) (next-still p) ∙ still-after (later p 1) n ∙ later-more p n
+
+pub counted-is-next : CountedIsNext
+counted-is-next p x h = let time : timeOf p ≡ p .time + 1 = omega arith in (rw time refl, time)
 
 pub still-rows : StillRows
 still-rows p n = (still-text p n, still-after p n)

@@ -7,7 +7,7 @@ use lib.ListN.{length, replicate}
 use Rattle.lines.specs.Ascii.{bytes}
 use Rattle.blocks.specs.Binary.{binary}
 use Rattle.blocks.specs.Blocks.{timeLine, excLine, rcLine, front, changed, timeBytes, changedBytes, changeBytes, frontBytes, change}
-use Rattle.blocks.specs.Wave.{atFirst, after, changes, close, waveform}
+use Rattle.blocks.specs.Wave.{atFirst, next, timeOf, counted, after, changes, close, waveform}
 use Rattle.blocks.specs.declared.Signals.{Signals}
 use Rattle.blocks.specs.declared.Wave.{Wave}
 
@@ -28,6 +28,10 @@ InPieces =
 -- ---- where the rows end
 abbrev pub TimeIsRows : Type 0
 TimeIsRows = (p : Wave) (xs : List Signals) → after p xs .time ≡ p .time + length xs
+
+-- a row more, as code counts it, is the next row as long as its time is a number of 64 bits
+abbrev pub CountedIsNext : Type 0
+CountedIsNext = (p : Wave) (x : Signals) → p .time + 1 < 2 ^ 64 → (counted p x ≡ next p x) × (timeOf p ≡ p .time + 1)
 
 -- rows that change nothing write nothing
 abbrev pub StillRows : Type 0

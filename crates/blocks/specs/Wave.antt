@@ -1,5 +1,5 @@
 -- The text of a waveform: opening, changes, close.
-use Prim.Native.Nat.{ℕ, _+_}
+use Prim.Native.Nat.{ℕ, _+_, _%_, _^_}
 use mathlib.Core.Bool.{cond}
 use mathlib.Core.List.{List, [], _∷_, _++_}
 use lib.Dec.{eqb}
@@ -14,6 +14,13 @@ atFirst s = record { time = 0; written = 0; signals = s }
 -- after one more row: its time is written only where a signal changed
 abbrev pub next : Wave → Signals → Wave
 next p x = record { time = p .time + 1; written = cond (same (p .signals) x) (p .written) (p .time + 1); signals = x }
+
+-- the same as code counts it, times modulo 2 ^ 64 (`CountedIsNext` of Laws.antt)
+abbrev pub timeOf : Wave → ℕ
+timeOf p = (p .time + 1) % 2 ^ 64
+
+abbrev pub counted : Wave → Signals → Wave
+counted p x = record { time = timeOf p; written = cond (same (p .signals) x) (p .written) (timeOf p); signals = x }
 
 unfoldable pub after : Wave → List Signals → Wave
 after p [] = p

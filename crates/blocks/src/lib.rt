@@ -11,7 +11,7 @@ ghost use Rattle.lines.specs.Ascii.{bytes};
 ghost use Rattle.text.specs.Number.{text};
 ghost use Rattle.text.specs.Put.{Put, stored, placeAfter};
 ghost use Rattle.blocks.specs.Binary.{binary};
-ghost use Rattle.blocks.specs.Wave.{close};
+ghost use Rattle.blocks.specs.Wave.{counted, close};
 ghost use Rattle.blocks.specs.Blocks.{timeLine, excLine, rcLine, front, opening, dump, same, changed, change, timeBytes, changedBytes, changeBytes, frontBytes};
 
 // The most bytes of a time, of the signals that changed, of both, and of the opening.
@@ -43,6 +43,26 @@ pub fn same(s: Signals, x: Signals) -> bool
         return false;
     }
     s.rc == x.rc
+}
+
+// After one more row, with the signals x. Its time is taken as written only where it changed a signal.
+pub fn counted(p: Wave, x: Signals) -> Wave
+    ensures { λ r. ⌜ r ≡ counted p x ⌝ }
+{
+    let time = std::num::wrapping_add_u64(p.time, 1);
+    let s = p.signals;
+    if same(s, x) {
+        return Wave {
+            time,
+            written: p.written,
+            signals: x,
+        };
+    }
+    Wave {
+        time,
+        written: time,
+        signals: x,
+    }
 }
 
 // The opening lines, and both signals at time 0.

@@ -124,25 +124,11 @@ fn signals_at(trace: &[u64], p: usize) -> Signals
     }
 }
 
-// A row's time is taken as written only where it changed a signal.
 fn next_row(p: Wave, x: Signals) -> Wave
     requires { ⌜ p .time + 1 < 2 ^ 64 ⌝ }
     ensures { λ r. ⌜ r ≡ next p x ⌝ }
 {
-    let time = p.time + 1;
-    let s = p.signals;
-    if blocks::same(s, x) {
-        return Wave {
-            time,
-            written: p.written,
-            signals: x,
-        };
-    }
-    Wave {
-        time,
-        written: time,
-        signals: x,
-    }
+    blocks::counted(p, x)
 }
 
 // ---- pieces of the text: each is made in an array of its own, so that it is known how long it is before any of it is stored

@@ -15,24 +15,22 @@ use Rattle.scenario.specs.Printed.{Reading, start, next as nextLine, ended, row
 use Rattle.blocks.specs.Wave.{atFirst, next, after, changes, waveform}
 use Rattle.blocks.specs.declared.Signals.{Signals}
 use Rattle.blocks.specs.declared.Wave.{Wave}
+use Rattle.blocks.proofs.Laws.{counted-is-next}
 use Rattle.vcd.specs.Trace.{mostRows, AllWired, ofRow, ofRows}
 use Rattle.vcd.proofs.FindsAll.{finds-all}
-use Rattle.waves.specs.Waves.{timeOf, counted, leftBy, textBy}
+use Rattle.waves.specs.Waves.{leftBy, textBy}
 use Rattle.waves.specs.Laws.{unlocked, fileRows, Fit, WaveOfFile, FoundInWave}
 use Rattle.waves.proofs.Calls.{cut-anywhere}
 use Rattle.waves.proofs.Rows.{Quiet, quiet-before, atStart, nothing-quiet, a-row, header-quiet, refusal-quiet}
 use Rattle.waves.proofs.Fits.{file-fits}
 
 -- ---- rows
-counted-next : (w : Wave) (x : Signals) → w .time + 1 < 2 ^ 64 → (counted w x ≡ next w x) × (timeOf w ≡ w .time + 1)
-counted-next w x h = let time : timeOf w ≡ w .time + 1 = omega arith in (rw time refl, time)
-
 rows-read : (rows : List Row) (n : ℕ) (w : Wave) → Fit rows → w .time + length rows < 2 ^ 64
     → (leftBy (atStart w) (rowsText n rows) ≡ atStart (after w (ofRows rows))) × (textBy (atStart w) (rowsText n rows) ≡ changes w (ofRows rows))
 unfolding leftBy textBy rowsText Fit ofRows after changes
 rows-read [] n w fit h = (refl, refl)
 rows-read (row ∷ rows) n w (exc, rc, fit) h =
-    let (is, time) = counted-next w (ofRow row) (omega arith) in
+    let (is, time) = counted-is-next w (ofRow row) (omega arith) in
     let (text, left) = cut-anywhere (atStart w) (rowText (n % countedTo) row) (rowsText (n + 1) rows) in
     let (row-left, row-text) = a-row (n % countedTo) row w exc rc in
     let (more-left, more-text) = rows-read rows (n + 1) (next w (ofRow row)) fit (omega arith) in

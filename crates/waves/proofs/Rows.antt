@@ -16,11 +16,12 @@ use Rattle.text.specs.Number.{text}
 use Rattle.text.specs.Lines.{comma, break, fields, lastField, header, rowText, refusal}
 use Rattle.text.proofs.ReadBack.{of-digits, is-decimal}
 use Rattle.blocks.specs.Blocks.{change}
+use Rattle.blocks.specs.Wave.{timeOf, counted}
 use Rattle.blocks.specs.declared.Signals.{Signals}
 use Rattle.blocks.specs.declared.Wave.{Wave}
 use Rattle.vcd.specs.Trace.{ofRow}
 use Rattle.waves.specs.Seen.{lineStart, grown, readBy, within}
-use Rattle.waves.specs.Waves.{stateOf, timeOf, counted, onByte, byteText, leftBy, textBy}
+use Rattle.waves.specs.Waves.{stateOf, onByte, byteText, leftBy, textBy}
 use Rattle.waves.specs.declared.State.{State}
 use Rattle.waves.proofs.Calls.{cut-anywhere}
 

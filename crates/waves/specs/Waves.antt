@@ -1,12 +1,12 @@
 -- The changes of a waveform for the bytes of a printed trace, however these are cut.
-use Prim.Native.Nat.{ℕ, _+_, _%_, _^_}
+use Prim.Native.Nat.{ℕ, _+_}
 use mathlib.Core.Bool.{Bool, _&&_, cond}
 use mathlib.Core.List.{List, [], _∷_, _++_}
 use lib.Dec.{eqb, leb}
 use lib.ListN.{length}
 use lib.Seq.{sets}
-use Rattle.blocks.specs.Blocks.{same, change, changeBytes}
-use Rattle.blocks.specs.Wave.{atFirst}
+use Rattle.blocks.specs.Blocks.{change, changeBytes}
+use Rattle.blocks.specs.Wave.{atFirst, timeOf, counted}
 use Rattle.blocks.specs.declared.Signals.{Signals}
 use Rattle.blocks.specs.declared.Wave.{Wave}
 use Rattle.lines.specs.Lines.{lf}
@@ -20,13 +20,6 @@ stateOf l p = record { seen = l; wave = p }
 -- before the first byte, of a trace that starts with the signals s
 abbrev pub freshOf : Signals → State
 freshOf s = stateOf lineStart (atFirst s)
-
--- times are counted modulo 2 ^ 64
-abbrev pub timeOf : Wave → ℕ
-timeOf p = (p .time + 1) % 2 ^ 64
-
-abbrev pub counted : Wave → Signals → Wave
-counted p x = record { time = timeOf p; written = cond (same (p .signals) x) (p .written) (timeOf p); signals = x }
 
 -- ---- one byte
 -- it ends a row

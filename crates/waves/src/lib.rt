@@ -5,9 +5,10 @@ ghost use lib.ListN.{drop};
 ghost use Rattle.lines.specs.Number.{digit};
 ghost use Rattle.text.specs.Put.{stored, placeAfter};
 ghost use Rattle.blocks.specs.Blocks.{change, changeBytes};
+ghost use Rattle.blocks.specs.Wave.{timeOf, counted};
 ghost use Rattle.lines.specs.Lines.{lf};
 ghost use Rattle.waves.specs.Seen.{lineStart, rcField, readBy, excAfter, otherAfter, isRow, signalsOf, scanned};
-ghost use Rattle.waves.specs.Waves.{stateOf, freshOf, timeOf, counted, onByte, byteText, takes};
+ghost use Rattle.waves.specs.Waves.{stateOf, freshOf, onByte, byteText, takes};
 use blocks::CHANGE;
 use blocks::Signals;
 use blocks::Wave;
@@ -234,25 +235,6 @@ fn is_row(l: Seen) -> bool
     l.field == RC
 }
 
-fn counted(p: Wave, x: Signals) -> Wave
-    ensures { λ r. ⌜ r ≡ counted p x ⌝ }
-{
-    let time = std::num::wrapping_add_u64(p.time, 1);
-    let s = p.signals;
-    if blocks::same(s, x) {
-        return Wave {
-            time,
-            written: p.written,
-            signals: x,
-        };
-    }
-    Wave {
-        time,
-        written: time,
-        signals: x,
-    }
-}
-
 fn end_line(seen: Seen, wave: Wave, out: &mut [u8], at: usize) -> Ended
     ensures { λ r. let s = stateOf seen wave in ⌜ r ≡ record { wave = onByte s lf .wave; at = placeAfter changeBytes (now (out .entry)) at (byteText s lf) } ⌝ }
     ensures { λ _. ⌜ now (out .exit) ≡ stored changeBytes (now (out .entry)) at (byteText (stateOf seen wave) lf) ⌝ }
@@ -272,7 +254,7 @@ fn end_row(seen: Seen, wave: Wave, out: &mut [u8], at: usize) -> Ended
         rc: seen.value,
     };
     let before = wave.signals;
-    let w = counted(wave, x);
+    let w = blocks::counted(wave, x);
     let n = blocks::put_change(out, at, w.time, before, x);
     Ended { wave: w, at: n }
 }

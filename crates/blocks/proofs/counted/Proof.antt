@@ -1,7 +1,7 @@
 -- `counted` meets its contract. Assumes nothing.
 use borrow.Author.Needs.{needs}
-use Rattle.waves.proofs.counted.Statement.{statement}
-use Rattle.waves.proofs.counted.Tie as tie
+use Rattle.blocks.proofs.counted.Statement.{statement}
+use Rattle.blocks.proofs.counted.Tie as tie
 
 returns : tie.Need-returns
 returns c = simp (← (c .before .same .ensures), c .if1 .taken, c .before .before .before .wrapping-add-u64 .ensures)
