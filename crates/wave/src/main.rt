@@ -1,5 +1,6 @@
 // A scenario on standard input, the waveform of its trace on standard output. The trace is printed into a list and taken from there, so that
 // neither is ever held as a whole. The refusal of a scenario is said on standard error, behind the waveform of the rows before it.
+use blocks::CHANGE;
 use blocks::Signals;
 use cell::pred::Pred;
 use chunks::Input;
@@ -8,9 +9,6 @@ use libc::STDERR_FILENO;
 use libc::STDIN_FILENO;
 use libc::STDOUT_FILENO;
 use pieces::Standing;
-
-// So many bytes of the waveform are written at once; behind them the list has room for changes.
-const FULL: usize = 50000;
 
 // What is handed from turn to turn, besides the lists.
 struct Run {
@@ -167,15 +165,12 @@ fn printed(run: Run, input: Input, fed: Fed) -> Run {
 
 // ---- the waveform
 
-// Takes what is printed as far as its changes have room, and writes them where that is much or all.
+// Takes what is printed as far as its changes have room, and writes them where the next has none, which is where taking stops, or all is taken.
 fn turn(run: Run, trace: &[u8], out: &mut [u8]) -> Run {
     let r = take_more(run, trace, out);
     let over = is_over(r);
-    let w = if over || FULL < r.at {
-        written(r, out)
-    } else {
-        r
-    };
+    let full = !text::has_room(out.len(), r.at, CHANGE);
+    let w = if over || full { written(r, out) } else { r };
     if over {
         return finished(w, out);
     }
