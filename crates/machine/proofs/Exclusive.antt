@@ -1,4 +1,5 @@
--- Demands 2a and 2b, from soundness: a writer past code 8 stands beside no read handle and beside no other such writer.
+-- A sound state is safe: a writer past code 8 stands beside no read handle and beside no other such writer, and the count is that of the
+-- readers. Demands 2a and 2b follow, since every schedule from setup leaves a sound state.
 use Prim.Native.Nat.{ℕ, _+_, _<_, _≤_}
 use mathlib.Core.Path.{_≡_, refl, sym}
 use mathlib.Core.Logic.{_≢_}
@@ -8,10 +9,14 @@ use native.Mathlib.Omega.{arith}
 use lib.Dec.{eqb}
 use lib.ListN.{length}
 use package.borrow.Author.Tests.{eqb-true, eqb-false}
-use Rattle.machine.specs.Words.{bit, is, isAt, unbegun}
+use Rattle.cell.specs.Pred.{permits}
+use Rattle.cell.specs.declared.pred.Pred.{Pred}
+use Rattle.machine.specs.Words.{bit, is, isAt, unbegun, unused}
 use Rattle.machine.specs.Step.{Scripts, here}
 use Rattle.machine.specs.Sound.{tally, Sound}
-use Rattle.machine.specs.Demands.{past8, Writer, at-work, dropped, finisher, Reader, holder, forgotten, SameWriter, Demand2a, Demand2b, CountAtMostTop}
+use Rattle.machine.specs.Setup.{fresh}
+use Rattle.machine.specs.Run.{Ran, run}
+use Rattle.machine.specs.Demands.{past8, Writer, at-work, dropped, finisher, Reader, holder, forgotten, SameWriter, Safe, WhoIsThere, WhoIsAnother, Demand2a, Demand2b, CountAtMostTop, SoundIsSafe}
 use Rattle.machine.specs.declared.Lock.{Lock}
 use Rattle.machine.specs.declared.Rec.{Rec}
 use Rattle.machine.specs.declared.Place.{Place}
@@ -96,11 +101,40 @@ module _ (S : Scripts) (L : Lock) (l : List Rec) (h : Sound S L l) where
   alone (finisher e) (dropped k b) = omega (arith, at-most, bit-true (L .finished) e)
   alone (finisher e) (finisher f) = tt
 
+pub who-is-there : WhoIsThere
+who-is-there L l =
+    (λ i a. (λ e. at-work i a (rw e refl), λ e. at-work i a (rw e refl), λ e. at-work i a (rw e refl), λ e. holder i a (rw e refl)), dropped 0, finisher, forgotten 0)
+
+same-back : (L : Lock) (l : List Rec) (x y : Writer L l) → SameWriter x y → SameWriter y x
+same-back L l (at-work i a p) (at-work j b q) same = sym same
+same-back L l (at-work i a p) (dropped k b) same = same
+same-back L l (at-work i a p) (finisher e) same = same
+same-back L l (dropped k a) (at-work i b q) same = same
+same-back L l (dropped k a) (dropped j b) same = sym same
+same-back L l (dropped k a) (finisher e) same = same
+same-back L l (finisher e) (at-work i b q) same = same
+same-back L l (finisher e) (dropped k b) same = same
+same-back L l (finisher e) (finisher f) same = same
+
+pub who-is-another : WhoIsAnother
+who-is-another L l =
+    (λ i j a b p q same. same, λ i k a p c same. same, λ i a p e same. same, λ k m c d same. same, λ k c e same. same, same-back L l)
+
+pub sound-is-safe : SoundIsSafe
+sound-is-safe S L l h = ((apart S L l h, alone S L l h), omega (arith, h .counts .count), h .counts .most)
+
+module _ (S : Scripts) (q : Pred) (m v n : ℕ) (top : 1 ≤ m) (ok : permits q v ≡ true) (schedule : List ℕ) where
+  abbrev after : Ran
+  after = run S (unused q m v) (fresh n) schedule
+
+  safe : Safe S (after .lock) (after .recs)
+  safe = sound-is-safe S (after .lock) (after .recs) (always-sound S q m v n top ok schedule)
+
 pub demand-2a : Demand2a
-demand-2a S q m v n top ok schedule = let h = always-sound S q m v n top ok schedule in (apart S _ _ h, alone S _ _ h)
+demand-2a S q m v n top ok schedule = safe S q m v n top ok schedule .0
 
 pub demand-2b : Demand2b
-demand-2b S q m v n top ok schedule = omega (arith, always-sound S q m v n top ok schedule .counts .count)
+demand-2b S q m v n top ok schedule = safe S q m v n top ok schedule .1
 
 pub count-at-most-top : CountAtMostTop
-count-at-most-top S q m v n top ok schedule = always-sound S q m v n top ok schedule .counts .most
+count-at-most-top S q m v n top ok schedule = safe S q m v n top ok schedule .2

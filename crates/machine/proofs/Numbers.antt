@@ -2,14 +2,14 @@
 use mathlib.Core.Path.{refl}
 use Rattle.cell.specs.Pred.{permits, good}
 use Rattle.machine.specs.Refusals.{lowest}
-use Rattle.machine.specs.Step.{fits, sum, entryRefusal, answer, step}
+use Rattle.machine.specs.Step.{act, fits, sum, entryRefusal, answer, step}
 use Rattle.machine.specs.Sound.{every, sound}
 use Rattle.machine.specs.Lists.{total, find, beside}
 use Rattle.machine.specs.Setup.{setupRefusal, setup, setupRecs}
 use Rattle.machine.specs.Run.{run, wordsOf, runRefusal, runLent}
 use Rattle.machine.specs.Tidy.{tidyRest, tidy}
 use Rattle.machine.specs.Drain.{drainRefusal, drainLent}
-use Rattle.machine.specs.Numbers.{Setup1, Setup2, Setup3, Setup4, Lists5, Lists6, Lists7, Strays, Run10, Drain10, Untidy, UntidyScripts, UntidyValues, Entry11, Entry12, Entry13, Entry14, Entry15, Entry16, SetupOrder, RunOrder, DrainOrder, EntryOrder, Numbers}
+use Rattle.machine.specs.Numbers.{Setup1, Setup2, Setup3, Setup4, Lists5, Lists6, Lists7, Strays, Run10, Drain10, Untidy, UntidyScripts, UntidyValues, Entry11, Entry12, Entry13, Entry14, Entry15, Entry16, NotAskedAgain, SetupOrder, RunOrder, DrainOrder, EntryOrder, Numbers}
 
 -- ---- setup
 setup-1 : Setup1
@@ -103,6 +103,10 @@ entry-16 : Entry16
 unfolding runRefusal runLent lowest permits good total find every sound sum run wordsOf step answer entryRefusal fits
 entry-16 = refl
 
+not-asked-again : NotAskedAgain
+unfolding runRefusal runLent lowest permits good total find every sound sum run wordsOf step answer entryRefusal fits act beside
+not-asked-again = (refl, refl, refl, refl)
+
 entry-order : EntryOrder
 unfolding runRefusal runLent lowest permits good total find every sound sum run wordsOf step answer entryRefusal fits
 entry-order = (refl, refl, refl, refl, refl, refl, refl)
@@ -113,6 +117,6 @@ numbers = (
   (lists-5, lists-6, lists-7, strays),
   (run-10, drain-10),
   (is-untidy, untidy-scripts, untidy-values),
-  (entry-11, entry-12, entry-13, entry-14, entry-15, entry-16),
+  (entry-11, entry-12, entry-13, entry-14, entry-15, entry-16, not-asked-again),
   (setup-order, run-order, drain-order, entry-order),
 )

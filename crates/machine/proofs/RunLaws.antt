@@ -1,6 +1,7 @@
 -- A run may be cut anywhere; a refused entry changes nothing; what a row says of its entry; and what every step from a sound state
 -- keeps holds after every schedule.
-use Prim.Native.Nat.{ℕ}
+use Prim.Native.Nat.{ℕ, zero, suc}
+use native.Mathlib.Nat.{not-suc-le-zero, le-of-suc-le-suc}
 use mathlib.Core.Path.{_≡_, refl, ap, sym}
 use mathlib.Core.Bool.{Bool, true, false, cond}
 use mathlib.Core.List.{List, [], _∷_, reverseAux}
@@ -10,7 +11,7 @@ use Rattle.machine.specs.Words.{bit}
 use Rattle.machine.specs.Step.{Scripts, act, here, opOf, valOf, entryRefusal, answer, settle, step}
 use Rattle.machine.specs.Sound.{Sound}
 use Rattle.machine.specs.Run.{run}
-use Rattle.machine.specs.RunLaws.{Cutting, RunOne, RefusedEntry, RowSays, Induction}
+use Rattle.machine.specs.RunLaws.{Cutting, RunOne, EachRow, RefusedEntry, RowSays, Induction}
 use Rattle.machine.specs.declared.Did.{Did}
 use Rattle.machine.specs.declared.Out.the-variants.{No, Yes}
 use Rattle.machine.specs.declared.Lock.{Lock}
@@ -28,6 +29,12 @@ cutting S L l (i ∷ s) t =
 pub run-one : RunOne
 unfolding run
 run-one S L l i = (refl, refl, refl)
+
+pub each-row : EachRow
+unfolding run
+each-row S L l [] k d h = absurd (not-suc-le-zero h)
+each-row S L l (i ∷ more) zero d h = refl
+each-row S L l (i ∷ more) (suc k) d h = each-row S (step S L l i .lock) (step S L l i .recs) more k d (le-of-suc-le-suc h)
 
 pub refused-entry : RefusedEntry
 unfolding step answer

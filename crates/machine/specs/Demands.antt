@@ -73,25 +73,63 @@ SameWriter (finisher e) (at-work i h p) = ⊥
 SameWriter (finisher e) (dropped k h) = ⊥
 SameWriter (finisher e) (finisher f) = Unit {0}
 
+-- Who is a writer and who a reader, from below, so that what is said of them is said of all: the five kinds of writer, the two kinds of
+-- read handle.
+abbrev pub WhoIsThere : Type 0
+WhoIsThere =
+    (L : Lock) (l : List Rec)
+    → ((i : ℕ) → i < length l
+    → (here l i .place ≡ WriteTake → Writer L l)
+    × (here l i .place ≡ Writing → Writer L l)
+    × (here l i .place ≡ WritePut → Writer L l)
+    × (here l i .place ≡ Reading → Reader L l))
+    × (0 < L .writes .0 → Writer L l)
+    × (L .finished ≡ true → Writer L l)
+    × (0 < L .reads .0 → Reader L l)
+
+-- And who is a second writer: another record, another dropped handle, one of another kind; in whichever order they are named.
+abbrev pub WhoIsAnother : Type 0
+WhoIsAnother =
+    (L : Lock) (l : List Rec)
+    → let Same : Writer L l → Writer L l → Type 0 = λ x y. SameWriter x y in
+    let Past8 : ℕ → Type 0 = λ i. past8 (here l i .place) ≡ true in
+    ((i j : ℕ) (a : i < length l) (b : j < length l) (p : Past8 i) (q : Past8 j) → Same (at-work i a p) (at-work j b q) → i ≡ j)
+    × ((i k : ℕ) (a : i < length l) (p : Past8 i) (c : k < L .writes .0) → Same (at-work i a p) (dropped k c) → ⊥)
+    × ((i : ℕ) (a : i < length l) (p : Past8 i) (e : L .finished ≡ true) → Same (at-work i a p) (finisher e) → ⊥)
+    × ((k m : ℕ) (c : k < L .writes .0) (d : m < L .writes .0) → Same (dropped k c) (dropped m d) → k ≡ m)
+    × ((k : ℕ) (c : k < L .writes .0) (e : L .finished ≡ true) → Same (dropped k c) (finisher e) → ⊥)
+    × ((x y : Writer L l) → Same x y → Same y x)
+
 -- no such writer stands beside a read handle or beside a second such writer
+abbrev pub Apart : Lock → List Rec → Type 0
+Apart L l = (Writer L l → Reader L l → ⊥) × ((a b : Writer L l) → SameWriter a b)
+
 abbrev pub Demand2a : Type 0
-Demand2a =
-    FromSetup (λ S v w. (Writer (w .lock) (w .recs) → Reader (w .lock) (w .recs) → ⊥) × ((a b : Writer (w .lock) (w .recs)) → SameWriter a b))
+Demand2a = FromSetup (λ S v w. Apart (w .lock) (w .recs))
 
 -- ---- demand 2b: the count equals pending, held and dropped readers
-abbrev pub Demand2b : Type 0
-Demand2b =
-    FromSetup (λ S v w.
-    let N = tally S (w .recs) in
-    w .lock .rc .0 ≡ N .check + N .back + N .reading + w .lock .reads .0)
+abbrev pub Counted : Scripts → Lock → List Rec → Type 0
+Counted S L l =
+    let N = tally S l in
+    L .rc .0 ≡ N .check + N .back + N .reading + L .reads .0
 
--- ---- the script places of the records are those that the rows say
-abbrev pub PlacesTold : Type 0
-PlacesTold = FromSetup (λ S v w. (j : ℕ) → j < length (w .recs) → here (w .recs) j .at ≡ placeOf j (reverse (w .rows)))
+abbrev pub Demand2b : Type 0
+Demand2b = FromSetup (λ S v w. Counted S (w .lock) (w .recs))
 
 -- and it never goes above M
 abbrev pub CountAtMostTop : Type 0
 CountAtMostTop = FromSetup (λ S v w. w .lock .rc .0 ≤ w .lock .top .0)
+
+-- ---- 2a, 2b and that the count is at most M, of every sound state: run and drain take states from outside, and scripts are lent anew
+abbrev pub Safe : Scripts → Lock → List Rec → Type 0
+Safe S L l = Apart L l × Counted S L l × (L .rc .0 ≤ L .top .0)
+
+abbrev pub SoundIsSafe : Type 0
+SoundIsSafe = (S : Scripts) (L : Lock) (l : List Rec) → Sound S L l → Safe S L l
+
+-- ---- the script places of the records are those that the rows say
+abbrev pub PlacesTold : Type 0
+PlacesTold = FromSetup (λ S v w. (j : ℕ) → j < length (w .recs) → here (w .recs) j .at ≡ placeOf j (reverse (w .rows)))
 
 -- ---- demand 2c: each borrow, take and into_inner got what the last finished release put, or the first value
 abbrev pub Demand2c : Type 0

@@ -11,7 +11,7 @@ use Rattle.machine.specs.Words.{mayGo, next}
 use Rattle.machine.specs.Step.{Scripts, busy, here, opOf}
 use Rattle.machine.specs.Sound.{Sound}
 use Rattle.machine.specs.Lists.{Lent, scriptsOf, beside}
-use Rattle.machine.specs.Run.{run}
+use Rattle.machine.specs.Run.{run, runRefusal}
 use Rattle.machine.specs.Tidy.{Tidy, bound}
 use Rattle.machine.specs.Drain.{Order, drain, drainRefusal, drainLent}
 use Rattle.machine.specs.declared.Lock.{Lock}
@@ -82,3 +82,8 @@ RefusedDrain =
     (s : Lent) (L : Lock) (l : List Rec) → drainRefusal s L l ≢ 0
     → let left = drainLent s L l in
     (left .refusal ≡ beside s (drainRefusal s L l)) × (left .n ≡ 0) × (left .lock ≡ L) × (left .recs ≡ l)
+
+-- Sixteen threads with 64 operations of cost 3, and three entries each: no state that run takes has a larger bound, and no drain,
+-- whatever it is lent, makes more entries.
+abbrev pub AtMost3120 : Type 0
+AtMost3120 = (s : Lent) (L : Lock) (l : List Rec) → (runRefusal s L l ≡ 0 → bound (scriptsOf s) l ≤ 3120) × (drainLent s L l .n ≤ 3120)

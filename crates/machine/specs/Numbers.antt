@@ -313,6 +313,16 @@ Entry15 =
 abbrev pub Entry16 : Type 0
 Entry16 = RowSays (lists (1 ∷ []) (5 ∷ []) (7 ∷ [])) takenLock (recOf 0 Writing 0 5 ∷ []) 0 16 1 0
 
+-- It is asked at Writing alone: at WritePut, where a state from outside may have a value in its script that is not permitted, the flag
+-- is cleared and the release ends.
+abbrev pub NotAskedAgain : Type 0
+NotAskedAgain =
+    let left = runLent (lists (1 ∷ []) (5 ∷ []) (7 ∷ [])) (either true (Full 5)) (recOf 0 WritePut 0 0 ∷ []) (0 ∷ []) 1 (replicate 6 9) in
+    (left .refusal ≡ refusal 0 0 0)
+    × (left .trace ≡ 0 ∷ 11 ∷ 0 ∷ 0 ∷ 0 ∷ 0 ∷ [])
+    × (left .lock ≡ either false (Full 5))
+    × (left .recs ≡ recOf 1 Idle 0 0 ∷ [])
+
 -- the lowest first, where two or more apply
 abbrev pub EntryOrder : Type 0
 EntryOrder =
@@ -335,5 +345,5 @@ Numbers =
     × (Lists5 × Lists6 × Lists7 × Strays)
     × (Run10 × Drain10)
     × (Untidy × UntidyScripts × UntidyValues)
-    × (Entry11 × Entry12 × Entry13 × Entry14 × Entry15 × Entry16)
+    × (Entry11 × Entry12 × Entry13 × Entry14 × Entry15 × Entry16 × NotAskedAgain)
     × (SetupOrder × RunOrder × DrainOrder × EntryOrder)

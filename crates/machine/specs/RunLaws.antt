@@ -29,6 +29,13 @@ RunOne =
     (S : Scripts) (L : Lock) (l : List Rec) (i : ℕ)
     → (run S L l (i ∷ []) .lock ≡ step S L l i .lock) × (run S L l (i ∷ []) .recs ≡ step S L l i .recs) × (run S L l (i ∷ []) .rows ≡ step S L l i .row ∷ [])
 
+-- row k of a run is that of the step of entry k, from the state that the entries before it leave
+abbrev pub EachRow : Type 0
+EachRow =
+    (S : Scripts) (L : Lock) (l : List Rec) (schedule : List ℕ) (k : ℕ) (d : Row) → k < length schedule
+    → let before = run S L l (take k schedule) in
+    getD (run S L l schedule .rows) k d ≡ step S (before .lock) (before .recs) (getD schedule k 0) .row
+
 -- a refused entry changes neither lock nor records, and leaves one row with access 0, got 0 and the flag and count as they stand
 abbrev pub RefusedEntry : Type 0
 RefusedEntry =
