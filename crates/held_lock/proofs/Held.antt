@@ -53,7 +53,7 @@ use Rattle.lent_lock.proofs.Locals as at
 use Rattle.lent_lock.proofs.Operands as ops
 use Rattle.lent_lock.proofs.Operands.{Values, lft, Moved}
 use Rattle.lent_lock.proofs.Records.{Sixteen, avals, aval, τ, a-tells, a-length, a-lawful, a-makes, stay-arr}
-use Rattle.lent_lock.proofs.Shape.{Shape, Says, clauses, by-value, of-value, after-value, kept-value, lent, of-list, after-list, kept-after, with-ty, value-rest, value-rest-vals, value-args, value-vals, value-ends, list-rest, list-rest-vals, list-args, list-vals, list-left, list-left-after}
+use Rattle.lent_lock.proofs.Shape.{Shape, Clause, clauses, by-value, of-value, after-value, kept-value, lent, of-list, after-list, kept-after, with-ty, value-rest, value-rest-vals, value-args, value-vals, value-ends, list-rest, list-rest-vals, list-args, list-vals, list-left, list-left-after}
 use Rattle.lent_lock.proofs.Tail as tail
 use Rattle.lent_lock.proofs.Tail.{Trace, Words}
 use Rattle.lent_lock.proofs.Walks.{AtMost, at-mosts}
@@ -117,7 +117,7 @@ module _ (S : Shape) where
   SameLifetimes = (κs : Lfts n) (κ : Lft) → Moved n (suc n) κs (with n k ok κ κs) Bs b′ b × Moved n (suc n) κs (with n k ok κ κs) As a′ a × (lft n c′ κs ≡ lft (suc n) c (with n k ok κ κs))
 
   -- ---- `says` is right where what the one that takes a list says of the first min m 16 records implies it
-  abbrev pub Right : Whole D → {M : Type 1} (𝓤 : URA M) → Says 𝓤 (lent S) → Says 𝓤 (by-value S) → Type 1
+  abbrev pub Right : Whole D → {M : Type 1} (𝓤 : URA M) → Clause 𝓤 (lent S) → Clause 𝓤 (by-value S) → Type 1
   Right whole 𝓤 told says =
       (κs : Lfts n) (κs′ : Lfts (suc n)) (x : Values Bs) (xs : List Rec) (m : ℕ) (y : Values As) (t : Trace T) (p : ℕ) (δ : GName) (r : N .D) (ws : Lasts (lent S) κs′ (list-args S κs′ x (listAt p δ (first xs m)) y t))
       → ent 𝓤 (told κs′ (list-args S κs′ x (listAt p δ (first xs m)) y t) r (atExit (lent S) κs′ (list-args S κs′ x (listAt p δ (first xs m)) y t) ws))
@@ -130,7 +130,7 @@ module _ (S : Shape) where
   abbrev stayed : Stays (by-value S .signature .params) (by-value S .kept)
   stayed = ops.stays n Bs b′ (of-value S) (kept-value S) (stay-arr, (stay-none (λ κs. u64) yes, stayed-after))
 
-  module _ (whole : Whole D) (same : SameLifetimes) {M : Type 1} (𝓤 : URA M) (H : Heap 𝓤) (told : Says 𝓤 (lent S)) (says : Says 𝓤 (by-value S)) (right : Right whole 𝓤 told says) (A : Atoms 𝓤) (W : Given 𝓤 H A) where
+  module _ (whole : Whole D) (same : SameLifetimes) {M : Type 1} (𝓤 : URA M) (H : Heap 𝓤) (told : Clause 𝓤 (lent S)) (says : Clause 𝓤 (by-value S)) (right : Right whole 𝓤 told says) (A : Atoms 𝓤) (W : Given 𝓤 H A) where
     abbrev Callee : Contract 𝓤
     Callee = tripleOf 𝓤 H A (lent S .signature) (closing 𝓤 H A (lent S) (clauses 𝓤 (lent S) told))
 
@@ -356,7 +356,7 @@ module _ (S : Shape) where
 
   -- the same of the function's own routine, from the theorem of the one that takes a list: i is the function's name, and env says what the
   -- names in its code mean
-  pub proved : (whole : Whole D) → SameLifetimes → {M : Type 1} (𝓤 : URA M) (H : Heap 𝓤) (told : Says 𝓤 (lent S)) (says : Says 𝓤 (by-value S)) → Right whole 𝓤 told says
+  pub proved : (whole : Whole D) → SameLifetimes → {M : Type 1} (𝓤 : URA M) (H : Heap 𝓤) (told : Clause 𝓤 (lent S)) (says : Clause 𝓤 (by-value S)) → Right whole 𝓤 told says
       → (𝓜 : Model 𝓤 H) (𝓖 : GhostRules 𝓤 H) (𝓡 : Running 𝓤 H 𝓜) (env : Env) (i : Name) {g : Name} {r : Routine}
       → Closed 𝓤 H (tables 𝓤 H 𝓜 𝓡 env .C) (tables 𝓤 H 𝓜 𝓡 env .Λ) i (function g) → env #at-most ≡ at-most-def.routine → env g ≡ r
       → Meets 𝓤 H (𝓖 .A) (lent S .signature) (𝓡 .run r) (closing 𝓤 H (𝓖 .A) (lent S) (clauses 𝓤 (lent S) told)) → Meets 𝓤 H (𝓖 .A) (by-value S .signature) (𝓡 .run (env i)) (closing 𝓤 H (𝓖 .A) (by-value S) (clauses 𝓤 (by-value S) says))

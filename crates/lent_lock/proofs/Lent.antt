@@ -52,7 +52,7 @@ use Rattle.lent_lock.proofs.Locals as at
 use Rattle.lent_lock.proofs.Operands as ops
 use Rattle.lent_lock.proofs.Operands.{Values, lft, Moved}
 use Rattle.lent_lock.proofs.Records.{Sixteen, aval, τ, a-length, a-lawful, a-makes}
-use Rattle.lent_lock.proofs.Shape.{Shape, Says, clauses, by-value, of-value, after-value, kept-value, lent, of-list, after-list, kept-after, with-ty, value-rest, value-args, value-vals, value-left, list-rest, list-rest-vals, list-args, list-vals, list-ends}
+use Rattle.lent_lock.proofs.Shape.{Shape, Clause, clauses, by-value, of-value, after-value, kept-value, lent, of-list, after-list, kept-after, with-ty, value-rest, value-args, value-vals, value-left, list-rest, list-rest-vals, list-args, list-vals, list-ends}
 use Rattle.lent_lock.proofs.Tail as tail
 use Rattle.lent_lock.proofs.Tail.{Tail, Trace, Words}
 use Rattle.lent_lock.proofs.Walks.{Blank, Exchange, blanks, exchanges, held, out, into}
@@ -134,7 +134,7 @@ module _ (S : Shape) where
       ends recs us = list-ends S κs x l y t (into recs (emptied (l .now))) us
 
   -- ---- `says` is right where what the one by value says implies it
-  abbrev pub Right : {M : Type 1} (𝓤 : URA M) → Says 𝓤 (by-value S) → Says 𝓤 (lent S) → Type 1
+  abbrev pub Right : {M : Type 1} (𝓤 : URA M) → Clause 𝓤 (by-value S) → Clause 𝓤 (lent S) → Type 1
   Right 𝓤 told says =
       (κs : Lfts (suc n)) (x : Values Bs) (l : RefT (List Rec)) (y : Values As) (t : Trace T) (r : D .row .Denot) (ws : Lasts (by-value S) (lfts κs) (passed κs x l y t))
       → ent 𝓤 (told (lfts κs) (passed κs x l y t) r (atExit (by-value S) (lfts κs) (passed κs x l y t) ws))
@@ -150,7 +150,7 @@ module _ (S : Shape) where
   abbrev stayed : Stays (lent S .signature .params) (lent S .kept)
   stayed = ops.stays (suc n) Bs b (of-list S) (yes, (kept-after S)) (stay-slice (k ∷ []) ok (plain (λ κs. R.the-row)), stayed-after)
 
-  module _ (same : SameLifetimes) {M : Type 1} (𝓤 : URA M) (H : Heap 𝓤) (told : Says 𝓤 (by-value S)) (says : Says 𝓤 (lent S)) (right : Right 𝓤 told says) (A : Atoms 𝓤) (W : Given 𝓤 H A) where
+  module _ (same : SameLifetimes) {M : Type 1} (𝓤 : URA M) (H : Heap 𝓤) (told : Clause 𝓤 (by-value S)) (says : Clause 𝓤 (lent S)) (right : Right 𝓤 told says) (A : Atoms 𝓤) (W : Given 𝓤 H A) where
     abbrev ByValue : Contract 𝓤
     ByValue = tripleOf 𝓤 H A (by-value S .signature) (closing 𝓤 H A (by-value S) (clauses 𝓤 (by-value S) told))
 
@@ -371,7 +371,7 @@ module _ (S : Shape) where
 
   -- the same of the function's own routine, from the theorem of the one by value: m is the function's name, and env says what the names in
   -- its code mean
-  pub proved : SameLifetimes → {M : Type 1} (𝓤 : URA M) (H : Heap 𝓤) (told : Says 𝓤 (by-value S)) (says : Says 𝓤 (lent S)) → Right 𝓤 told says
+  pub proved : SameLifetimes → {M : Type 1} (𝓤 : URA M) (H : Heap 𝓤) (told : Clause 𝓤 (by-value S)) (says : Clause 𝓤 (lent S)) → Right 𝓤 told says
       → (𝓜 : Model 𝓤 H) (𝓖 : GhostRules 𝓤 H) (𝓡 : Running 𝓤 H 𝓜) (env : Env) (m : Name) {g : Name} {r : Routine}
       → Closed 𝓤 H (tables 𝓤 H 𝓜 𝓡 env .C) (tables 𝓤 H 𝓜 𝓡 env .Λ) m (function g) → env #blank ≡ blank-def.routine → env #exchange ≡ exchange-def.routine → env g ≡ r
       → Meets 𝓤 H (𝓖 .A) (by-value S .signature) (𝓡 .run r) (closing 𝓤 H (𝓖 .A) (by-value S) (clauses 𝓤 (by-value S) told)) → Meets 𝓤 H (𝓖 .A) (lent S .signature) (𝓡 .run (env m)) (closing 𝓤 H (𝓖 .A) (lent S) (clauses 𝓤 (lent S) says))

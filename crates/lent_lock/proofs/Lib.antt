@@ -13,4 +13,4 @@ pub mod Walks
 pub mod Shape
 pub mod Shapes
 pub mod Lent
-pub mod Facts
+pub mod PutBack

@@ -28,10 +28,10 @@ use Rattle.lent_lock.proofs.Tail as tail
 use Rattle.lent_lock.proofs.Tail.{Tail, Trace, Words}
 
 -- what a function's contract says of its result and of its parameters at exit, as clauses
-abbrev pub Says : {M : Type 1} → URA M → Ended → Type 2
-Says 𝓤 T = (κs : Lfts (T .signature .lifetimes)) → Args (T .signature) κs → Res (T .signature) κs → AtExit T κs → SProp 𝓤
+abbrev pub Clause : {M : Type 1} → URA M → Ended → Type 2
+Clause 𝓤 T = (κs : Lfts (T .signature .lifetimes)) → Args (T .signature) κs → Res (T .signature) κs → AtExit T κs → SProp 𝓤
 
-abbrev pub clauses : {M : Type 1} (𝓤 : URA M) (T : Ended) → Says 𝓤 T → Clauses 𝓤 T
+abbrev pub clauses : {M : Type 1} (𝓤 : URA M) (T : Ended) → Clause 𝓤 T → Clauses 𝓤 T
 clauses 𝓤 T says κs a = record { ghost = Unit {0}; requires = λ _. emp 𝓤; ensures = λ _. says κs a }
 
 -- The one by value has n lifetimes, and the lent one that of the records besides, at the number k. Bs are passed before the records, As and

@@ -45,7 +45,7 @@ granted : {M : Type 1} {𝓤 : URA M} {H : Heap 𝓤} {A : Atoms 𝓤} {K : Type
 granted {𝓤 = 𝓤} t {P} {Q} h = step (λ s. record { prf = via 𝓤 P (s .prf) (via 𝓤 (sep 𝓤 (emp 𝓤) P) (emp∗ 𝓤 P) (via 𝓤 (sep 𝓤 Q P) (monoL 𝓤 P h) (comm∗ 𝓤 Q P))) })
 
 -- `does` is what the operation by value does, and `states` what the lent one's contract says, which is right of that
-module _ (C P B : Plain) (R : Pair P B) (Ns : List Plain) (does : C .D → P .D → ops.Values Ns → R .row .Denot) {M : Type 1} (𝓤 : URA M) (H : Heap 𝓤) (states : shape.Says C P B R Ns does 𝓤) (right : shape.Right C P B R Ns does 𝓤 states) where
+module _ (C P B : Plain) (R : Pair P B) (Ns : List Plain) (does : C .D → P .D → ops.Values Ns → R .row .Denot) {M : Type 1} (𝓤 : URA M) (H : Heap 𝓤) (states : shape.Clause C P B R Ns does 𝓤) (right : shape.Right C P B R Ns does 𝓤 states) where
   abbrev by-value : Ended
   by-value = shape.by-value C P B R Ns
 

@@ -43,14 +43,14 @@ module _ (C P B : Plain) (R : Pair P B) (Ns : List Plain) where
     gives κs a = record { ghost = Unit {0}; requires = λ _. emp 𝓤; ensures = λ _ r e. fact 𝓤 (r ≡ does (a .0) (a .1 .0) (values 0 κs Ns (a .1 .1))) }
 
     -- what the lent operation's contract says of an answer and of the parameters at exit
-    abbrev pub Says : Type 2
-    Says = (κs : Lfts 1) → Args (by-ref .signature) κs → B .D → AtExit by-ref κs → SProp 𝓤
+    abbrev pub Clause : Type 2
+    Clause = (κs : Lfts 1) → Args (by-ref .signature) κs → B .D → AtExit by-ref κs → SProp 𝓤
 
-    abbrev pub leaves : Says → Clauses 𝓤 by-ref
+    abbrev pub leaves : Clause → Clauses 𝓤 by-ref
     leaves says κs a = record { ghost = Unit {0}; requires = λ _. emp 𝓤; ensures = λ _. says κs a }
 
     -- it holds where the answer is the operation's, and the permission that it leaves is behind the reference
-    abbrev pub Right : Says → Type 1
+    abbrev pub Right : Clause → Type 1
     Right says =
         (κs : Lfts 1) (a : Args (by-ref .signature) κs) →
         let d = does (a .0) (now (a .1 .0)) (values 1 κs Ns (a .1 .1)) in ent 𝓤 (emp 𝓤) (says κs a (R .answer d) (atExit by-ref κs a (tt, (R .perm d, fins 1 κs Ns (a .1 .1)))))

@@ -35,7 +35,7 @@ made-refused : (L : Lock) (why : Refusal) → Made L ≡ Refused why → ⊥
 made-refused L why e = let clash : _≡_ {A = ℕ} 0 1 = cc in omega (arith, clash)
 
 pub refused-setup : RefusedSetup
-refused-setup s q m v l start l′ why is list e =
+refused-setup s q m v l start l′ why (is, list) e =
     let refused : setup q m v s (length l) ≡ Refused why = sym is ∙ e in
     let some : setupRefusal q m v s (length l) ≢ 0 = λ none. made-refused _ why (sym (setup-is-sound q m v s l none .0) ∙ refused) in
     (list ∙ setup-law q m v s l some .1, setup-by-value s q m v (length l) l (begunOf q m v s (length l) l) why refl refused .1)
@@ -64,7 +64,7 @@ pub refused-step : RefusedStep
 refused-step s L l i trace = refused-run s L l (i ∷ []) 1 trace
 
 pub refused-drain : RefusedDrain
-refused-drain s L l d l′ is list some =
+refused-drain s L l d l′ (is, list) some =
     let refused : drainRefusal s L l ≢ 0 =
     λ none. some (ap (λ (x : Refusal). x .number) (ap (λ (x : Drained). x .refusal) is ∙ drain-rule s L l none .0) ∙ number-beside s 0)
     in
@@ -94,13 +94,13 @@ accepted-step s L l i trace r l′ trace′ given one zero =
 
 -- ---- demand 3
 pub demand3 : Demand3
-demand3 s q m v L l rows reached tidy d l′ is list =
+demand3 s q m v L l rows reached tidy d l′ (is, list) =
     rw (is, list) (of-drain s q m v L l rows (lent-is-reached s q m v L l rows reached) tidy (drainLent s L l) refl)
 
 pub accepted-drain : AcceptedDrain
-accepted-drain s L l d l′ is list none = rw (is, list) (of-accepted s L l (drainLent s L l) refl (rw is at none))
+accepted-drain s L l d l′ (is, list) none = rw (is, list) (of-accepted s L l (drainLent s L l) refl (rw is at none))
 
 pub after-drain : AfterDrain
-after-drain s q m v L l rows reached d l′ is list over =
-    let there = ReachedLent.drained reached d l′ (over .entries) is list (over .accepted) (over .order) in
+after-drain s q m v L l rows reached d l′ given over =
+    let there = ReachedLent.drained reached d l′ (over .entries) given (over .accepted) (over .order) in
     (demand2 s q m v (d .lock) l′ _ there, runs-go-on s q m v (d .lock) l′ _ there)

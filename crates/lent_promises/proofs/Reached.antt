@@ -28,7 +28,7 @@ none-past s L l schedule budget used trace none past =
     rw (run-rule s L l schedule budget (drop (rowWords * used) trace) none .3, drop-of-length-le trace over) (omega arith)
 
 reach : {s : Lent} {q : Pred} {m v : ℕ} {L : Lock} {l : List Rec} {rows : List Row} → ReachedLent s q m v L l rows → Reached s q m v L l rows
-reach (ReachedLent.begun l start l′ L is list made) = rw list (Reached.begun l L (sym is ∙ made))
+reach (ReachedLent.begun l start l′ L (is, list) made) = rw list (Reached.begun l L (sym is ∙ made))
 reach {s} (ReachedLent.ran {L} {l} before schedule budget trace r l′ trace′ given) =
     let (is, list, trace-is) = given in
     rw (is, list, trace-is) (Reached.ran (reach before) schedule budget trace (runLent s L l schedule budget trace) refl)
@@ -41,7 +41,7 @@ reach {s} {q} {m} {v} (ReachedLent.ran-on {L} {l} before schedule budget used tr
 reach {s} (ReachedLent.stepped {L} {l} before i trace r l′ trace′ given) =
     let (is, list, trace-is) = given in
     rw (is, list, trace-is) (Reached.ran (reach before) (i ∷ []) 1 trace (stepLent s L l i trace) refl)
-reach {s} (ReachedLent.drained {L} {l} before d l′ es is list none order) =
+reach {s} (ReachedLent.drained {L} {l} before d l′ es (is, list) none order) =
     rw (is, list) (Reached.drained (reach before) (drainLent s L l) es refl (rw is at none) (rw (is, list) at order))
 
 pub lent-is-reached : LentIsReached

@@ -16,8 +16,8 @@ use Rattle.lent_lock.specs.Run.{restLent}
 use Rattle.promises.proofs.Rows.{rest-read-back}
 use Rattle.promises.proofs.Runs.{not-refused, run-is-run as of-run}
 use Rattle.promises.proofs.Accesses.{one-entry as of-entry, entry-left, answered, entry-answer as of-answer}
-use Rattle.promises.proofs.Answers.{run-answer as of-refusal, drain-answer as of-drain}
-use Rattle.lent_promises.specs.Runs.{RunIsRun, RestIsRun, StepIsRun, OneEntry, EntryAnswer, RefusedEntry, RunAnswer, RestAnswer, DrainAnswer}
+use Rattle.promises.proofs.Answers.{setup-answer as of-setup, setup-made as of-state, run-answer as of-refusal, drain-answer as of-drain}
+use Rattle.lent_promises.specs.Runs.{RunIsRun, RestIsRun, StepIsRun, OneEntry, EntryAnswer, RefusedEntry, SetupAnswer, SetupState, RunAnswer, RestAnswer, DrainAnswer}
 
 -- ---- runs
 pub run-is-run : RunIsRun
@@ -62,6 +62,12 @@ refused-entry s L l i budget trace r l′ trace′ given one some =
     rw (is, list, trace-is, entry-left s L l i budget trace left refl one-left, same, stay, row, ne-eqb _ 0 refused) (refl, refl, refl, refl)
 
 -- ---- the refusals
+pub setup-answer : SetupAnswer
+setup-answer s q m v l start l′ given = of-setup s q m v l start (given .0)
+
+pub setup-state : SetupState
+setup-state s q m v l start l′ L given made = of-state s q m v l start l′ L (given .0) (given .1) made
+
 pub run-answer : RunAnswer
 run-answer s L l schedule budget trace r l′ trace′ given =
     rw (given .0) (of-refusal s L l schedule budget trace (runLent s L l schedule budget trace) refl)
@@ -71,4 +77,4 @@ rest-answer s L l schedule budget used trace r l′ trace′ given =
     rw (given .0) (of-refusal s L l schedule budget (drop (rowWords * used) trace) (restLent s L l schedule budget used trace) refl)
 
 pub drain-answer : DrainAnswer
-drain-answer s L l d is = rw is (of-drain s L l (drainLent s L l) refl)
+drain-answer s L l d l′ given = rw (given .0) (of-drain s L l (drainLent s L l) refl)

@@ -3,26 +3,23 @@ use Prim.Native.Nat.{ℕ}
 use mathlib.Core.Path.{_≡_}
 use mathlib.Core.Logic.{_≢_}
 use mathlib.Core.List.{List, _++_}
-use lib.ListN.{length, getD}
+use lib.ListN.{getD}
 use Rattle.cell.specs.declared.pred.Pred.{Pred}
 use Rattle.machine.specs.Lists.{Lent, scriptsOf}
-use Rattle.machine.specs.Setup.{setup, setupRecs}
 use Rattle.machine.specs.Run.{run}
 use Rattle.machine.specs.Tidy.{Tidy}
-use Rattle.machine.specs.Drain.{drainLent}
 use Rattle.machine.specs.declared.Lock.{Lock}
 use Rattle.machine.specs.declared.Rec.{Rec}
 use Rattle.machine.specs.declared.Row.{Row}
 use Rattle.machine.specs.declared.Refusal.{Refusal}
 use Rattle.machine.specs.declared.Start.{Start}
 use Rattle.machine.specs.declared.Start.the-variants.{Refused}
-use Rattle.lent_lock.specs.Drain.{drainedOf}
 use Rattle.lent_lock.specs.declared.run.Ran.{Ran}
 use Rattle.lent_lock.specs.declared.drain.Drained.{Drained}
 use Rattle.promises.specs.Reached.{rowIn, Reached}
 use Rattle.promises.specs.Promises.{Kept, Over}
 use Rattle.promises.specs.Accesses.{Entered}
-use Rattle.lent_promises.specs.Reached.{GivenByRun, GivenByRest, GivenByStep, ReachedLent}
+use Rattle.lent_promises.specs.Reached.{GivenBySetup, GivenByRun, GivenByRest, GivenByStep, GivenByDrain, ReachedLent}
 
 -- what the lent functions reach is reached
 abbrev pub LentIsReached : Type 0
@@ -32,7 +29,7 @@ LentIsReached = (s : Lent) (q : Pred) (m v : ℕ) (L : Lock) (l : List Rec) (row
 abbrev pub RefusedSetup : Type 0
 RefusedSetup =
     (s : Lent) (q : Pred) (m v : ℕ) (l : List Rec) (start : Start) (l′ : List Rec) (why : Refusal)
-    → start ≡ setup q m v s (length l) → l′ ≡ setupRecs q m v s l → start ≡ Refused why
+    → GivenBySetup s q m v l start l′ → start ≡ Refused why
     → (l′ ≡ l) × (why .number ≢ 0)
 
 -- what is left where nothing changed: no entry, no row
@@ -56,7 +53,7 @@ RefusedStep =
 
 abbrev pub RefusedDrain : Type 0
 RefusedDrain =
-    (s : Lent) (L : Lock) (l : List Rec) (d : Drained) (l′ : List Rec) → d ≡ drainedOf (drainLent s L l) → l′ ≡ drainLent s L l .recs
+    (s : Lent) (L : Lock) (l : List Rec) (d : Drained) (l′ : List Rec) → GivenByDrain s L l d l′
     → d .refusal .number ≢ 0
     → (d .n ≡ 0) × (d .lock ≡ L) × (l′ ≡ l)
 
@@ -95,13 +92,13 @@ Ended s L l d l′ = Over s L l (d .refusal) (d .n) (d .lock) l′
 abbrev pub Demand3 : Type 0
 Demand3 =
     (s : Lent) (q : Pred) (m v : ℕ) (L : Lock) (l : List Rec) (rows : List Row) → ReachedLent s q m v L l rows → Tidy (scriptsOf s) L l
-    → (d : Drained) (l′ : List Rec) → d ≡ drainedOf (drainLent s L l) → l′ ≡ drainLent s L l .recs
+    → (d : Drained) (l′ : List Rec) → GivenByDrain s L l d l′
     → Ended s L l d l′
 
 -- whatever the state, a drain that is not refused leaves that
 abbrev pub AcceptedDrain : Type 0
 AcceptedDrain =
-    (s : Lent) (L : Lock) (l : List Rec) (d : Drained) (l′ : List Rec) → d ≡ drainedOf (drainLent s L l) → l′ ≡ drainLent s L l .recs
+    (s : Lent) (L : Lock) (l : List Rec) (d : Drained) (l′ : List Rec) → GivenByDrain s L l d l′
     → d .refusal .number ≡ 0
     → Ended s L l d l′
 
@@ -109,7 +106,7 @@ AcceptedDrain =
 abbrev pub AfterDrain : Type 0
 AfterDrain =
     (s : Lent) (q : Pred) (m v : ℕ) (L : Lock) (l : List Rec) (rows : List Row) → ReachedLent s q m v L l rows
-    → (d : Drained) (l′ : List Rec) → d ≡ drainedOf (drainLent s L l) → l′ ≡ drainLent s L l .recs
+    → (d : Drained) (l′ : List Rec) → GivenByDrain s L l d l′
     → (over : Ended s L l d l′)
     → Kept s v (d .lock) l′ (rows ++ run (scriptsOf s) L l (over .entries) .rows)
     × ((schedule : List ℕ) (budget : ℕ) (trace : List ℕ) (r : Ran) (l″ : List Rec) (trace′ : List ℕ)

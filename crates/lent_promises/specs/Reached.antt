@@ -21,7 +21,8 @@ use Rattle.lent_lock.specs.declared.run.Ran.{Ran}
 use Rattle.lent_lock.specs.declared.drain.Drained.{Drained}
 use Rattle.promises.specs.Reached.{rowsIn}
 
--- what a contract allows: r is returned, l′ and trace′ stand in the lent lists of records and of rows afterwards
+-- what the functions give: r is returned, l′ and trace′ stand in the lent lists of records and of rows afterwards. `Cited` says that these
+-- are what their contracts say
 abbrev pub Gives : RunLeft → List ℕ → Ran → List Rec → List ℕ → Type 0
 Gives left list r l′ trace′ = (r ≡ ranOf left) × (l′ ≡ left .recs) × (trace′ ≡ list)
 
@@ -35,8 +36,14 @@ GivenByRest s L l schedule budget used trace =
 abbrev pub GivenByStep : Lent → Lock → List Rec → ℕ → List ℕ → Ran → List Rec → List ℕ → Type 0
 GivenByStep s L l i trace = let left = stepLent s L l i trace in Gives left (left .trace)
 
+abbrev pub GivenBySetup : Lent → Pred → ℕ → ℕ → List Rec → Start → List Rec → Type 0
+GivenBySetup s q m v l start l′ = (start ≡ setup q m v s (length l)) × (l′ ≡ setupRecs q m v s l)
+
+abbrev pub GivenByDrain : Lent → Lock → List Rec → Drained → List Rec → Type 0
+GivenByDrain s L l d l′ = (d ≡ drainedOf (drainLent s L l)) × (l′ ≡ drainLent s L l .recs)
+
 pub data ReachedLent (s : Lent) (q : Pred) (m v : ℕ) : Lock → List Rec → List Row → Type 0 where
-  begun : (l : List Rec) (start : Start) (l′ : List Rec) (L : Lock) → start ≡ setup q m v s (length l) → l′ ≡ setupRecs q m v s l → start ≡ Made L
+  begun : (l : List Rec) (start : Start) (l′ : List Rec) (L : Lock) → GivenBySetup s q m v l start l′ → start ≡ Made L
       → ReachedLent s q m v L l′ []
   ran : {L : Lock} {l : List Rec} {rows : List Row} → ReachedLent s q m v L l rows
       → (schedule : List ℕ) (budget : ℕ) (trace : List ℕ) (r : Ran) (l′ : List Rec) (trace′ : List ℕ)
@@ -53,6 +60,6 @@ pub data ReachedLent (s : Lent) (q : Pred) (m v : ℕ) : Lock → List Rec → L
       → ReachedLent s q m v (r .lock) l′ (rows ++ rowsIn (r .n) trace′)
   -- a drain that is not refused; es are its entries
   drained : {L : Lock} {l : List Rec} {rows : List Row} → ReachedLent s q m v L l rows → (d : Drained) (l′ : List Rec) (es : List ℕ)
-      → d ≡ drainedOf (drainLent s L l) → l′ ≡ drainLent s L l .recs → d .refusal .number ≡ 0
+      → GivenByDrain s L l d l′ → d .refusal .number ≡ 0
       → Order (scriptsOf s) L l es (d .lock) l′
       → ReachedLent s q m v (d .lock) l′ (rows ++ run (scriptsOf s) L l es .rows)

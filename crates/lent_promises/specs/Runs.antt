@@ -1,6 +1,6 @@
 -- What a run over a lent list, a later piece and a run of one entry leave, and that their answers are exact, whatever the state: said of
 -- what the functions of `lent_lock` return and leave in the lent lists.
-use Prim.Native.Nat.{ℕ, _*_, _≤_}
+use Prim.Native.Nat.{ℕ, _*_, _<_, _≤_}
 use mathlib.Core.Path.{_≡_}
 use mathlib.Core.Logic.{_≢_}
 use mathlib.Core.List.{List, [], _∷_, _++_}
@@ -12,16 +12,18 @@ use Rattle.machine.specs.Refusals.{Exact}
 use Rattle.machine.specs.Lists.{Lent, scriptsOf}
 use Rattle.machine.specs.Step.{step}
 use Rattle.machine.specs.Run.{wordsOf}
-use Rattle.machine.specs.Drain.{drainLent}
 use Rattle.machine.specs.When.{AtEntry, AtRun, AtDrain}
 use Rattle.machine.specs.declared.Lock.{Lock}
 use Rattle.machine.specs.declared.Rec.{Rec}
-use Rattle.lent_lock.specs.Drain.{drainedOf}
 use Rattle.lent_lock.specs.declared.run.Ran.{Ran}
 use Rattle.lent_lock.specs.declared.drain.Drained.{Drained}
 use Rattle.promises.specs.Runs.{IsRun}
-use Rattle.promises.specs.Answers.{ExactRefusal}
-use Rattle.lent_promises.specs.Reached.{GivenByRun, GivenByRest, GivenByStep}
+use Rattle.cell.specs.declared.pred.Pred.{Pred}
+use Rattle.machine.specs.declared.Start.{Start}
+use Rattle.machine.specs.declared.Start.the-variants.{Made}
+use Rattle.machine.specs.SetupLaws.{Unused, Fresh}
+use Rattle.promises.specs.Answers.{ExactRefusal, SetupSays}
+use Rattle.lent_promises.specs.Reached.{GivenBySetup, GivenByRun, GivenByRest, GivenByStep, GivenByDrain}
 
 -- ---- a run that is not refused is machine's run of the first entries of its schedule
 abbrev pub RunIsRun : Type 0
@@ -76,7 +78,17 @@ RefusedEntry =
     × (r .done ≡ 0)
     × (take rowWords trace′ ≡ i ∷ 0 ∷ getD trace′ 2 0 ∷ 0 ∷ bit (L .exc) ∷ L .rc .0 ∷ [])
 
--- ---- the refusals are exact; those of setup are in `promises`, whose `SetupAnswer` and `SetupState` speak of a lent list
+-- ---- the refusals are exact; and the state after setup
+abbrev pub SetupAnswer : Type 0
+SetupAnswer =
+    (s : Lent) (q : Pred) (m v : ℕ) (l : List Rec) (start : Start) (l′ : List Rec) → GivenBySetup s q m v l start l′
+    → SetupSays q m v s (length l) start
+
+abbrev pub SetupState : Type 0
+SetupState =
+    (s : Lent) (q : Pred) (m v : ℕ) (l : List Rec) (start : Start) (l′ : List Rec) (L : Lock) → GivenBySetup s q m v l start l′ → start ≡ Made L
+    → Unused q m v L × (length l′ ≡ length l) × ((i : ℕ) (none : Rec) → i < length l → Fresh (getD l′ i none))
+
 abbrev pub RunAnswer : Type 0
 RunAnswer =
     (s : Lent) (L : Lock) (l : List Rec) (schedule : List ℕ) (budget : ℕ) (trace : List ℕ) (r : Ran) (l′ : List Rec) (trace′ : List ℕ)
@@ -90,4 +102,5 @@ RestAnswer =
     → ExactRefusal (AtRun s L l) s (r .refusal)
 
 abbrev pub DrainAnswer : Type 0
-DrainAnswer = (s : Lent) (L : Lock) (l : List Rec) (d : Drained) → d ≡ drainedOf (drainLent s L l) → ExactRefusal (AtDrain s L l) s (d .refusal)
+DrainAnswer =
+    (s : Lent) (L : Lock) (l : List Rec) (d : Drained) (l′ : List Rec) → GivenByDrain s L l d l′ → ExactRefusal (AtDrain s L l) s (d .refusal)

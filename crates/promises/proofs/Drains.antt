@@ -11,13 +11,15 @@ use Rattle.machine.specs.Drain.{Order, drain, drainRefusal, DrainLeft, drainLen
 use Rattle.machine.specs.declared.Lock.{Lock}
 use Rattle.machine.specs.declared.Rec.{Rec}
 use Rattle.machine.proofs.Ends.{drain-rule}
+use Rattle.machine.proofs.Exclusive.{sound-is-safe}
 use Rattle.machine.proofs.Order.{order-is-one}
+use Rattle.machine.proofs.Runs.{run-sound}
 use Rattle.lock.specs.ByValue.{drainRefusalOf, drainOf}
 use Rattle.lock.specs.Drain.{drainedOf}
 use Rattle.lock.specs.declared.drain.Drained.{Drained}
 use Rattle.lock.proofs.Refusing.{none-refused, no-number, number-beside}
 use Rattle.lock.proofs.Draining.{none-of-run, drain-by-value}
-use Rattle.promises.specs.Promises.{Over, OverByValue, AcceptedDrain, AcceptedDrainByValue}
+use Rattle.promises.specs.Promises.{Over, OverByValue, AcceptedDrain, SafeDrain, AcceptedDrainByValue}
 use Rattle.promises.proofs.Refusing.{drain-told, drain-told-by-value}
 
 pub drain-over : (s : Lent) (L : Lock) (l : List Rec) (left : DrainLeft) → left ≡ drainLent s L l → drainRefusal s L l ≡ 0
@@ -29,6 +31,7 @@ drain-over s L l left is none =
     rw (is, refusal, n, lock, recs)
     (record {
       accepted = number-beside s 0;
+      sound = sound;
       entries = w .made;
       used = refl;
       order = drained .order;
@@ -46,6 +49,11 @@ drain-over s L l left is none =
 
 pub accepted-drain : AcceptedDrain
 accepted-drain s L l left is none = drain-over s L l left is (no-number s (drainRefusal s L l) (left .refusal) (drain-told s L l left is) none)
+
+pub safe-drain : SafeDrain
+safe-drain s L l why n L′ l′ over =
+    let S = scriptsOf s in
+    (λ k. sound-is-safe S _ _ (run-sound S (take k (over .entries)) L l (over .sound)), rw (← over .same-lock, ← over .same-recs) (sound-is-safe S _ _ (run-sound S (over .entries) L l (over .sound))))
 
 -- a run of the entries of a drain leaves what the drain leaves
 pub order-run : (s : Lent) (L : Lock) (l : List Rec) (left : DrainLeft) (es : List ℕ) → left ≡ drainLent s L l → left .refusal .number ≡ 0

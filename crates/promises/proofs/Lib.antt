@@ -1,4 +1,5 @@
 pub mod Outcome
+pub mod Cited
 pub mod Rows
 pub mod Refusing
 pub mod Runs

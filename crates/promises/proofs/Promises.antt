@@ -16,7 +16,8 @@ use Rattle.machine.specs.Setup.{fresh, setup, setupRefusal}
 use Rattle.machine.specs.Run.{Ran as Machine}
 use Rattle.machine.specs.declared.Refusal.{Refusal}
 use Rattle.machine.specs.declared.Start.the-variants.{Made, Refused}
-use Rattle.machine.proofs.Exclusive.{demand-2a, demand-2b}
+use Rattle.machine.proofs.Exclusive.{sound-is-safe}
+use Rattle.machine.proofs.Runs.{always-sound}
 use Rattle.machine.proofs.RunRule.{run-rule}
 use Rattle.machine.proofs.Value.{demand-2c}
 use Rattle.lock.specs.ByValue.{putBack, setupOf}
@@ -77,14 +78,8 @@ kept : {s : Lent} {q : Pred} {m v : ℕ} {w : Machine} → Comes s q m v w → K
 kept {s} {q} {m} {v} c =
     let (top, ok) = admits s q m v c in
     let S = scriptsOf s in
-    let (no-reader, one-writer) = demand-2a S q m v (c .records) top ok (c .schedule) in
-    rw (← c .is)
-    (record {
-      no-reader = no-reader;
-      one-writer = one-writer;
-      counted = demand-2b S q m v (c .records) top ok (c .schedule);
-      told = demand-2c S q m v (c .records) top ok (c .schedule);
-    })
+    let sound = always-sound S q m v (c .records) top ok (c .schedule) in
+    rw (← c .is) (record { safe = sound-is-safe S _ _ sound; told = demand-2c S q m v (c .records) top ok (c .schedule) })
 
 pub demand2 : Demand2
 demand2 s q m v L l rows reached = kept (comes reached)

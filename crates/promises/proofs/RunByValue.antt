@@ -75,7 +75,7 @@ module _
         run-length (scriptsOf s) L (take count recs) (handled schedule budget trace) ∙ length-take-le count recs enough
         in
         rw (all, list, take-at (after .recs) (drop count recs) count size)
-        (made-is-run s L (take count recs) schedule budget trace, drop-at (after .recs) (drop count recs) count size)
+        (made-is-run s L (take count recs) schedule budget trace (rw (← same) at (ready .sound)), drop-at (after .recs) (drop count recs) count size)
 
 pub run-is-run-by-value : RunIsRunByValue
 run-is-run-by-value s count L recs schedule budget trace r trace′ is trace-is wide none =

@@ -19,9 +19,9 @@ use Rattle.machine.specs.When.{AtEntry}
 use Rattle.machine.specs.declared.Lock.{Lock}
 use Rattle.machine.specs.declared.Rec.{Rec}
 use Rattle.machine.specs.declared.Row.{Row}
-use Rattle.lock.specs.ByValue.{putBack, runOf}
-use Rattle.lock.specs.Run.{ranOf}
+use Rattle.lock.specs.ByValue.{putBack}
 use Rattle.lock.specs.declared.run.Ran.{Ran}
+use Rattle.promises.specs.Given.{ReturnedByRun, LeftByRun}
 use Rattle.promises.specs.Reached.{rowIn}
 
 -- ---- a run of one entry that is not refused, with a budget and room for a row, is machine's step: one row, the lock and the records
@@ -39,7 +39,7 @@ OneEntry =
 abbrev pub OneEntryByValue : Type 0
 OneEntryByValue =
     (s : Lent) (count : ℕ) (L : Lock) (recs : List Rec) (i budget : ℕ) (trace : List ℕ) (r : Ran) (trace′ : List ℕ)
-    → r ≡ ranOf count recs (runOf s count L recs (i ∷ []) budget trace) → trace′ ≡ runOf s count L recs (i ∷ []) budget trace .trace
+    → ReturnedByRun s count L recs (i ∷ []) budget trace r → LeftByRun s count L recs (i ∷ []) budget trace trace′
     → r .refusal .number ≡ 0 → 1 ≤ budget → rowWords ≤ length trace
     → let x = step (scriptsOf s) L (take count recs) i in
     (r .n ≡ 1)
@@ -89,7 +89,7 @@ AcceptedEntry =
 abbrev pub AcceptedEntryByValue : Type 0
 AcceptedEntryByValue =
     (s : Lent) (count : ℕ) (L : Lock) (recs : List Rec) (i budget : ℕ) (trace : List ℕ) (r : Ran) (trace′ : List ℕ)
-    → r ≡ ranOf count recs (runOf s count L recs (i ∷ []) budget trace) → trace′ ≡ runOf s count L recs (i ∷ []) budget trace .trace
+    → ReturnedByRun s count L recs (i ∷ []) budget trace r → LeftByRun s count L recs (i ∷ []) budget trace trace′
     → length recs ≡ mostThreads → r .n ≡ 1 → getD trace′ 2 0 ≡ 0
     → Entered (scriptsOf s) L (take count recs) i (r .lock) (take count (r .recs)) (rowIn trace′) × (drop count (r .recs) ≡ drop count recs)
 
@@ -103,6 +103,6 @@ EntryAnswer =
 abbrev pub EntryAnswerByValue : Type 0
 EntryAnswerByValue =
     (s : Lent) (count : ℕ) (L : Lock) (recs : List Rec) (i budget : ℕ) (trace : List ℕ) (r : Ran) (trace′ : List ℕ)
-    → r ≡ ranOf count recs (runOf s count L recs (i ∷ []) budget trace) → trace′ ≡ runOf s count L recs (i ∷ []) budget trace .trace
+    → ReturnedByRun s count L recs (i ∷ []) budget trace r → LeftByRun s count L recs (i ∷ []) budget trace trace′
     → r .n ≡ 1
     → Exact (AtEntry (scriptsOf s) L (take count recs) i) (getD trace′ 2 0)

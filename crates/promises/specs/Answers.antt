@@ -21,13 +21,10 @@ use Rattle.machine.specs.declared.Rec.{Rec}
 use Rattle.machine.specs.declared.Refusal.{Refusal}
 use Rattle.machine.specs.declared.Start.{Start}
 use Rattle.machine.specs.declared.Start.the-variants.{Made, Refused}
-use Rattle.lock.specs.ByValue.{runOf, drainOf}
-use Rattle.lock.specs.Run.{ranOf, restOf}
-use Rattle.lock.specs.Setup.{begunOf}
-use Rattle.lock.specs.Drain.{drainedOf}
 use Rattle.lock.specs.declared.run.Ran.{Ran}
 use Rattle.lock.specs.declared.setup.Begun.{Begun}
 use Rattle.lock.specs.declared.drain.Drained.{Drained}
+use Rattle.promises.specs.Given.{ReturnedBySetup, ReturnedByRun, ReturnedByRest, ReturnedByDrain}
 
 -- the refusal's number is exact, and beside it stands what belongs there: machine's `FirstLong` and `FirstWrong` say what
 abbrev pub ExactRefusal : (ℕ → Type 0) → Lent → Refusal → Type 0
@@ -51,7 +48,7 @@ SetupAnswer =
 
 abbrev pub SetupAnswerByValue : Type 0
 SetupAnswerByValue =
-    (s : Lent) (q : Pred) (m v count : ℕ) (recs : List Rec) (b : Begun) → b ≡ begunOf q m v s count recs → SetupSays q m v s count (b .start)
+    (s : Lent) (q : Pred) (m v count : ℕ) (recs : List Rec) (b : Begun) → ReturnedBySetup s q m v count recs b → SetupSays q m v s count (b .start)
 
 -- the lock that is made is an unused one, and every record has done nothing
 abbrev pub SetupState : Type 0
@@ -65,7 +62,7 @@ SetupState =
 -- of the first `count` records; the other records of the array stay
 abbrev pub SetupStateByValue : Type 0
 SetupStateByValue =
-    (s : Lent) (q : Pred) (m v count : ℕ) (recs : List Rec) (b : Begun) (L : Lock) → length recs ≡ mostThreads → b ≡ begunOf q m v s count recs
+    (s : Lent) (q : Pred) (m v count : ℕ) (recs : List Rec) (b : Begun) (L : Lock) → length recs ≡ mostThreads → ReturnedBySetup s q m v count recs b
     → b .start ≡ Made L
     → Unused q m v L
     × (length (b .recs) ≡ mostThreads)
@@ -89,14 +86,14 @@ pub data AtRunOf (s : Lent) (count : ℕ) (L : Lock) (l : List Rec) : ℕ → Ty
 abbrev pub RunAnswerByValue : Type 0
 RunAnswerByValue =
     (s : Lent) (count : ℕ) (L : Lock) (recs : List Rec) (schedule : List ℕ) (budget : ℕ) (trace : List ℕ) (r : Ran)
-    → r ≡ ranOf count recs (runOf s count L recs schedule budget trace)
+    → ReturnedByRun s count L recs schedule budget trace r
     → ExactRefusal (AtRunOf s count L (take count recs)) s (r .refusal)
 
 -- a later piece, by run_rest, is refused as a run is
 abbrev pub RestAnswerByValue : Type 0
 RestAnswerByValue =
     (s : Lent) (count : ℕ) (L : Lock) (recs : List Rec) (schedule : List ℕ) (budget used : ℕ) (trace : List ℕ) (r : Ran)
-    → r ≡ ranOf count recs (restOf s count L recs schedule budget used trace)
+    → ReturnedByRest s count L recs schedule budget used trace r
     → ExactRefusal (AtRunOf s count L (take count recs)) s (r .refusal)
 
 -- ---- drain
@@ -109,5 +106,5 @@ pub data AtDrainOf (s : Lent) (count : ℕ) (L : Lock) (l : List Rec) : ℕ → 
 
 abbrev pub DrainAnswerByValue : Type 0
 DrainAnswerByValue =
-    (s : Lent) (count : ℕ) (L : Lock) (recs : List Rec) (d : Drained) → d ≡ drainedOf count recs (drainOf s count L recs)
+    (s : Lent) (count : ℕ) (L : Lock) (recs : List Rec) (d : Drained) → ReturnedByDrain s count L recs d
     → ExactRefusal (AtDrainOf s count L (take count recs)) s (d .refusal)

@@ -1,4 +1,6 @@
 pub mod Outcome
+pub mod Given
+pub mod Cited
 pub mod Reached
 pub mod Runs
 pub mod Promises

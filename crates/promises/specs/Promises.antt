@@ -1,5 +1,5 @@
 -- The three demands, said of what the functions of `lock` return, so that a user of them needs no definition's text.
-use Prim.Native.Nat.{ℕ, _+_, _*_, _<_, _≤_, min, _/_}
+use Prim.Native.Nat.{ℕ, _*_, _<_, _≤_, min, _/_}
 use mathlib.Core.Path.{_≡_}
 use mathlib.Core.Logic.{_≢_}
 use mathlib.Core.Bool.{true, false}
@@ -11,52 +11,49 @@ use Rattle.machine.specs.Names.{mostThreads, rowWords}
 use Rattle.machine.specs.Step.{here}
 use Rattle.machine.specs.Words.{bit}
 use Rattle.machine.specs.Lists.{Lent, scriptsOf}
-use Rattle.machine.specs.Sound.{tally}
+use Rattle.machine.specs.Sound.{Sound}
 use Rattle.machine.specs.Tidy.{Tidy, bound}
 use Rattle.machine.specs.Trace.{Told}
 use Rattle.machine.specs.RunLaws.{zeroAnswers}
 use Rattle.machine.specs.Drain.{Order, DrainLeft, drainLent}
 use Rattle.machine.specs.Ends.{AllAccepted}
 use Rattle.machine.specs.Run.{run, RunLeft, runLent}
-use Rattle.machine.specs.Demands.{Writer, Reader, SameWriter}
+use Rattle.machine.specs.Demands.{Safe}
 use Rattle.machine.specs.declared.Lock.{Lock}
 use Rattle.machine.specs.declared.Rec.{Rec}
 use Rattle.machine.specs.declared.Row.{Row}
 use Rattle.machine.specs.declared.Refusal.{Refusal}
 use Rattle.machine.specs.declared.Place.the-variants.{Idle}
 use Rattle.machine.specs.declared.Start.the-variants.{Refused}
-use Rattle.lock.specs.ByValue.{runOf, drainOf}
-use Rattle.lock.specs.Run.{ranOf, restOf, restTrace}
-use Rattle.lock.specs.Setup.{begunOf}
-use Rattle.lock.specs.Drain.{drainedOf}
 use Rattle.lock.specs.declared.run.Ran.{Ran}
 use Rattle.lock.specs.declared.setup.Begun.{Begun}
 use Rattle.lock.specs.declared.drain.Drained.{Drained}
+use Rattle.promises.specs.Given.{ReturnedBySetup, ReturnedByRun, LeftByRun, ReturnedByRest, LeftByRest, ReturnedByDrain}
 use Rattle.promises.specs.Reached.{Reached, ReachedByValue}
 
 -- ---- demand 1: a refused call changes nothing that is lent
 abbrev pub RefusedSetup : Type 0
 RefusedSetup =
-    (s : Lent) (q : Pred) (m v count : ℕ) (recs : List Rec) (b : Begun) (why : Refusal) → b ≡ begunOf q m v s count recs → b .start ≡ Refused why
+    (s : Lent) (q : Pred) (m v count : ℕ) (recs : List Rec) (b : Begun) (why : Refusal) → ReturnedBySetup s q m v count recs b → b .start ≡ Refused why
     → (b .recs ≡ recs) × (why .number ≢ 0)
 
 abbrev pub RefusedRun : Type 0
 RefusedRun =
     (s : Lent) (count : ℕ) (L : Lock) (recs : List Rec) (schedule : List ℕ) (budget : ℕ) (trace : List ℕ) (r : Ran) (trace′ : List ℕ)
-    → r ≡ ranOf count recs (runOf s count L recs schedule budget trace) → trace′ ≡ runOf s count L recs schedule budget trace .trace
+    → ReturnedByRun s count L recs schedule budget trace r → LeftByRun s count L recs schedule budget trace trace′
     → r .refusal .number ≢ 0
     → (r .n ≡ 0) × (r .done ≡ 0) × (r .lock ≡ L) × (r .recs ≡ recs) × (trace′ ≡ trace)
 
 abbrev pub RefusedRest : Type 0
 RefusedRest =
     (s : Lent) (count : ℕ) (L : Lock) (recs : List Rec) (schedule : List ℕ) (budget used : ℕ) (trace : List ℕ) (r : Ran) (trace′ : List ℕ)
-    → r ≡ ranOf count recs (restOf s count L recs schedule budget used trace) → trace′ ≡ restTrace s count L recs schedule budget used trace
+    → ReturnedByRest s count L recs schedule budget used trace r → LeftByRest s count L recs schedule budget used trace trace′
     → r .refusal .number ≢ 0
     → (r .n ≡ 0) × (r .done ≡ 0) × (r .lock ≡ L) × (r .recs ≡ recs) × (trace′ ≡ trace)
 
 abbrev pub RefusedDrain : Type 0
 RefusedDrain =
-    (s : Lent) (count : ℕ) (L : Lock) (recs : List Rec) (d : Drained) → d ≡ drainedOf count recs (drainOf s count L recs)
+    (s : Lent) (count : ℕ) (L : Lock) (recs : List Rec) (d : Drained) → ReturnedByDrain s count L recs d
     → d .refusal .number ≢ 0
     → (d .n ≡ 0) × (d .lock ≡ L) × (d .recs ≡ recs)
 
@@ -65,7 +62,7 @@ RefusedDrain =
 abbrev pub RefusedEntry : Type 0
 RefusedEntry =
     (s : Lent) (count : ℕ) (L : Lock) (recs : List Rec) (i budget : ℕ) (trace : List ℕ) (r : Ran) (trace′ : List ℕ)
-    → r ≡ ranOf count recs (runOf s count L recs (i ∷ []) budget trace) → trace′ ≡ runOf s count L recs (i ∷ []) budget trace .trace
+    → ReturnedByRun s count L recs (i ∷ []) budget trace r → LeftByRun s count L recs (i ∷ []) budget trace trace′
     → r .n ≡ 1 → getD trace′ 2 0 ≢ 0
     → (r .lock ≡ L)
     × (r .recs ≡ recs)
@@ -76,7 +73,7 @@ RefusedEntry =
 abbrev pub RunCounts : Type 0
 RunCounts =
     (s : Lent) (count : ℕ) (L : Lock) (recs : List Rec) (schedule : List ℕ) (budget : ℕ) (trace : List ℕ) (r : Ran) (trace′ : List ℕ)
-    → r ≡ ranOf count recs (runOf s count L recs schedule budget trace) → trace′ ≡ runOf s count L recs schedule budget trace .trace
+    → ReturnedByRun s count L recs schedule budget trace r → LeftByRun s count L recs schedule budget trace trace′
     → length recs ≡ mostThreads → r .refusal .number ≡ 0
     → (r .n ≡ min budget (min (length schedule) (length trace / rowWords)))
     × (r .done ≡ zeroAnswers (r .n) trace′)
@@ -85,13 +82,9 @@ RunCounts =
 
 -- ---- demand 2: what is true of every reached state l with the rows so far, v being the first value
 pub record Kept (s : Lent) (v : ℕ) (L : Lock) (l : List Rec) (rows : List Row) : Type 0 where
-  -- 2a: no writer past code 8 beside a read handle or beside a second such writer
-  pub no-reader : Writer L l → Reader L l → ⊥
-  pub one-writer : (a b : Writer L l) → SameWriter a b
-  -- 2b: the count is that of the pending, the held and the dropped readers
-  pub counted :
-      let N = tally (scriptsOf s) l in
-      L .rc .0 ≡ N .check + N .back + N .reading + L .reads .0
+  -- 2a: no writer past code 8 beside a read handle or beside a second such writer; 2b: the count is that of the pending, the held and the
+  -- dropped readers, and at most M
+  pub safe : Safe (scriptsOf s) L l
   -- 2c: every borrow, take and into_inner got what the last finished release put, or the first value
   pub told : Told (scriptsOf s) v (reverse rows)
 
@@ -113,19 +106,21 @@ RunsGoOn =
 abbrev pub RunsGoOnByValue : Type 0
 RunsGoOnByValue =
     (s : Lent) (q : Pred) (m v count : ℕ) (L : Lock) (recs : List Rec) (rows : List Row) → ReachedByValue s q m v count L recs rows
-    → (schedule : List ℕ) (budget : ℕ) (trace : List ℕ) (r : Ran) → r ≡ ranOf count recs (runOf s count L recs schedule budget trace)
+    → (schedule : List ℕ) (budget : ℕ) (trace : List ℕ) (r : Ran) → ReturnedByRun s count L recs schedule budget trace r
     → r .refusal .number ≡ 0
 
 abbrev pub RestGoesOnByValue : Type 0
 RestGoesOnByValue =
     (s : Lent) (q : Pred) (m v count : ℕ) (L : Lock) (recs : List Rec) (rows : List Row) → ReachedByValue s q m v count L recs rows
-    → (schedule : List ℕ) (budget used : ℕ) (trace : List ℕ) (r : Ran) → r ≡ ranOf count recs (restOf s count L recs schedule budget used trace)
+    → (schedule : List ℕ) (budget used : ℕ) (trace : List ℕ) (r : Ran) → ReturnedByRest s count L recs schedule budget used trace r
     → r .refusal .number ≡ 0
 
 -- ---- demand 3: what a drain from the state L, l leaves
 pub record Over (s : Lent) (L : Lock) (l : List Rec) (why : Refusal) (n : ℕ) (L′ : Lock) (l′ : List Rec) : Type 0 where
   -- none of 5, 6, 7, 10, 17
   pub accepted : why .number ≡ 0
+  -- the state that was lent is sound
+  pub sound : Sound (scriptsOf s) L l
   -- the entries that were made, n of them, are the drain order; no other entries are, and no other state is left by it
   pub entries : List ℕ
   pub used : n ≡ length entries
@@ -155,9 +150,16 @@ AcceptedDrain =
 
 abbrev pub AcceptedDrainByValue : Type 0
 AcceptedDrainByValue =
-    (s : Lent) (count : ℕ) (L : Lock) (recs : List Rec) (d : Drained) → d ≡ drainedOf count recs (drainOf s count L recs) → length recs ≡ mostThreads
+    (s : Lent) (count : ℕ) (L : Lock) (recs : List Rec) (d : Drained) → ReturnedByDrain s count L recs d → length recs ≡ mostThreads
     → d .refusal .number ≡ 0
     → OverByValue s count L recs d
+
+-- then 2a and 2b hold of the state that was lent, after every entry, and of what is left
+abbrev pub SafeDrain : Type 0
+SafeDrain =
+    (s : Lent) (L : Lock) (l : List Rec) (why : Refusal) (n : ℕ) (L′ : Lock) (l′ : List Rec)
+    → (over : Over s L l why n L′ l′)
+    → ((k : ℕ) → let w = run (scriptsOf s) L l (take k (over .entries)) in Safe (scriptsOf s) (w .lock) (w .recs)) × Safe (scriptsOf s) L′ l′
 
 -- and it is not refused from a tidy state that calls reach
 abbrev pub Demand3 : Type 0
@@ -169,7 +171,7 @@ Demand3 =
 abbrev pub Demand3ByValue : Type 0
 Demand3ByValue =
     (s : Lent) (q : Pred) (m v count : ℕ) (L : Lock) (recs : List Rec) (rows : List Row) → ReachedByValue s q m v count L recs rows
-    → Tidy (scriptsOf s) L (take count recs) → (d : Drained) → d ≡ drainedOf count recs (drainOf s count L recs)
+    → Tidy (scriptsOf s) L (take count recs) → (d : Drained) → ReturnedByDrain s count L recs d
     → OverByValue s count L recs d
 
 -- After a drain demand 2 holds, with the rows of its entries after the others, and no run with the same scripts is refused.
@@ -184,9 +186,9 @@ AfterDrain =
 abbrev pub AfterDrainByValue : Type 0
 AfterDrainByValue =
     (s : Lent) (q : Pred) (m v count : ℕ) (L : Lock) (recs : List Rec) (rows : List Row) → ReachedByValue s q m v count L recs rows
-    → (d : Drained) → d ≡ drainedOf count recs (drainOf s count L recs)
+    → (d : Drained) → ReturnedByDrain s count L recs d
     → let l = take count recs in
     (over : Over s L l (d .refusal) (d .n) (d .lock) (take count (d .recs)))
     → Kept s v (d .lock) (take count (d .recs)) (rows ++ run (scriptsOf s) L l (over .entries) .rows)
-    × ((schedule : List ℕ) (budget : ℕ) (trace : List ℕ) (r : Ran) → r ≡ ranOf count (d .recs) (runOf s count (d .lock) (d .recs) schedule budget trace)
+    × ((schedule : List ℕ) (budget : ℕ) (trace : List ℕ) (r : Ran) → ReturnedByRun s count (d .lock) (d .recs) schedule budget trace r
     → r .refusal .number ≡ 0)

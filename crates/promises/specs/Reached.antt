@@ -15,13 +15,10 @@ use Rattle.machine.specs.declared.Lock.{Lock}
 use Rattle.machine.specs.declared.Rec.{Rec}
 use Rattle.machine.specs.declared.Row.{Row}
 use Rattle.machine.specs.declared.Start.the-variants.{Made}
-use Rattle.lock.specs.ByValue.{runOf, drainOf}
-use Rattle.lock.specs.Run.{ranOf, restOf, restTrace}
-use Rattle.lock.specs.Setup.{begunOf}
-use Rattle.lock.specs.Drain.{drainedOf}
 use Rattle.lock.specs.declared.run.Ran.{Ran}
 use Rattle.lock.specs.declared.setup.Begun.{Begun}
 use Rattle.lock.specs.declared.drain.Drained.{Drained}
+use Rattle.promises.specs.Given.{ReturnedBySetup, ReturnedByRun, LeftByRun, ReturnedByRest, LeftByRest, ReturnedByDrain}
 
 -- the first row of a trace list
 abbrev pub rowIn : List ℕ → Row
@@ -54,18 +51,18 @@ pub data Reached (s : Lent) (q : Pred) (m v : ℕ) : Lock → List Rec → List 
 -- with records by value, `count` of them in an array of sixteen: b, r and d are what the contracts of lock's setup, run, run_rest and
 -- drain allow, and trace′ is what they allow as the trace list afterwards
 pub data ReachedByValue (s : Lent) (q : Pred) (m v count : ℕ) : Lock → List Rec → List Row → Type 0 where
-  begun : (recs : List Rec) (b : Begun) (L : Lock) → length recs ≡ mostThreads → b ≡ begunOf q m v s count recs → b .start ≡ Made L
+  begun : (recs : List Rec) (b : Begun) (L : Lock) → length recs ≡ mostThreads → ReturnedBySetup s q m v count recs b → b .start ≡ Made L
       → ReachedByValue s q m v count L (b .recs) []
   ran : {L : Lock} {recs : List Rec} {rows : List Row} → ReachedByValue s q m v count L recs rows
       → (schedule : List ℕ) (budget : ℕ) (trace : List ℕ) (r : Ran) (trace′ : List ℕ)
-      → r ≡ ranOf count recs (runOf s count L recs schedule budget trace) → trace′ ≡ runOf s count L recs schedule budget trace .trace
+      → ReturnedByRun s count L recs schedule budget trace r → LeftByRun s count L recs schedule budget trace trace′
       → ReachedByValue s q m v count (r .lock) (r .recs) (rows ++ rowsIn (r .n) trace′)
   -- a later piece, by run_rest: its rows come after the first `used` ones of the trace list
   ran-on : {L : Lock} {recs : List Rec} {rows : List Row} → ReachedByValue s q m v count L recs rows
       → (schedule : List ℕ) (budget used : ℕ) (trace : List ℕ) (r : Ran) (trace′ : List ℕ)
-      → r ≡ ranOf count recs (restOf s count L recs schedule budget used trace) → trace′ ≡ restTrace s count L recs schedule budget used trace
+      → ReturnedByRest s count L recs schedule budget used trace r → LeftByRest s count L recs schedule budget used trace trace′
       → ReachedByValue s q m v count (r .lock) (r .recs) (rows ++ rowsIn (r .n) (drop (rowWords * used) trace′))
   drained : {L : Lock} {recs : List Rec} {rows : List Row} → ReachedByValue s q m v count L recs rows → (d : Drained) (es : List ℕ)
-      → d ≡ drainedOf count recs (drainOf s count L recs) → d .refusal .number ≡ 0
+      → ReturnedByDrain s count L recs d → d .refusal .number ≡ 0
       → Order (scriptsOf s) L (take count recs) es (d .lock) (take count (d .recs))
       → ReachedByValue s q m v count (d .lock) (d .recs) (rows ++ run (scriptsOf s) L (take count recs) es .rows)

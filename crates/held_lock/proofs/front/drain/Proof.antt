@@ -1,7 +1,7 @@
 -- `front::drain` meets its contract: it lends the first records of its array to `lent_lock::drain::drain`, and returns the array as it comes back.
 -- Assumes nothing.
 use mathlib.Core.Path.{refl}
-use Rattle.lent_lock.proofs.Facts.{two-one}
+use Rattle.says.proofs.Facts.{two-one}
 use Rattle.lent_lock.proofs.Shapes.{of-drain}
 use Rattle.lent_lock.proofs.drain.drain as g
 use Rattle.lent_lock.proofs.drain.drain.Met.{met}

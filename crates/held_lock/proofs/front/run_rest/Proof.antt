@@ -1,7 +1,7 @@
 -- `front::run_rest` meets its contract: it lends the first records of its array to `lent_lock::run::run_rest`, and returns the array as it comes back.
 -- Assumes nothing.
 use mathlib.Core.Path.{refl}
-use Rattle.lent_lock.proofs.Facts.{three-two}
+use Rattle.says.proofs.Facts.{three-two}
 use Rattle.lent_lock.proofs.Shapes.{of-rest}
 use Rattle.lent_lock.proofs.run.run_rest as g
 use Rattle.lent_lock.proofs.run.run_rest.Met.{met}

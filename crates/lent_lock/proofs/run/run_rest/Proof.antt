@@ -8,7 +8,8 @@ use Rattle.machine.specs.Names.{rowWords}
 use Rattle.machine.specs.Lists.{lists}
 use Rattle.lent_lock.proofs.AnyLength.{run-any-length}
 use Rattle.lent_lock.proofs.Answers.{ran-with}
-use Rattle.lent_lock.proofs.Facts.{two-three, put-as-left}
+use Rattle.lent_lock.proofs.PutBack.{put-as-left}
+use Rattle.says.proofs.Facts.{two-three}
 use Rattle.lent_lock.proofs.Lent.{proved}
 use Rattle.lent_lock.proofs.Shapes.{of-rest}
 use Rattle.lent_lock.proofs.run.rest_taken as g

@@ -5,7 +5,8 @@ use mathlib.Core.Path.{refl, _∙_}
 use Rattle.machine.specs.Lists.{lists}
 use Rattle.lent_lock.proofs.AnyLength.{run-any-length}
 use Rattle.lent_lock.proofs.Answers.{ran-with}
-use Rattle.lent_lock.proofs.Facts.{two-three, put-as-left}
+use Rattle.lent_lock.proofs.PutBack.{put-as-left}
+use Rattle.says.proofs.Facts.{two-three}
 use Rattle.lent_lock.proofs.Lent.{proved}
 use Rattle.lent_lock.proofs.Shapes.{of-step}
 use Rattle.lent_lock.proofs.run.step_taken as g

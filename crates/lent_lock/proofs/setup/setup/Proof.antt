@@ -4,7 +4,8 @@ use mathlib.Core.Path.{refl}
 use Rattle.machine.specs.Lists.{lists}
 use Rattle.lent_lock.proofs.AnyLength.{setup-any-length}
 use Rattle.lent_lock.proofs.Answers.{begun}
-use Rattle.lent_lock.proofs.Facts.{one-two, put-as-left}
+use Rattle.lent_lock.proofs.PutBack.{put-as-left}
+use Rattle.says.proofs.Facts.{one-two}
 use Rattle.lent_lock.proofs.Lent.{proved}
 use Rattle.lent_lock.proofs.Shapes.{of-setup}
 use Rattle.lock.proofs.setup.setup as g
