@@ -1,7 +1,10 @@
 pub mod Cases
 pub mod Adds
 pub mod OpAdded
+pub mod Scripts
 pub mod PredLine
 pub mod Setup
+pub mod Named
+pub mod Numbered
 pub mod ByBytes
 pub mod Pieces

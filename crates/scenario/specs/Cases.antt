@@ -42,6 +42,11 @@ NoOpLine = Prints (file (opening ++ ("run,0,1,0" ∷ "run,255,1,0" ∷ []))) ("0
 abbrev pub RowsStand : Type 0
 RowsStand =
     Prints (file (opening ++ ("op,0,1,0" ∷ "run,0,1,0" ∷ "op,0,1,0" ∷ "run,0,1,0" ∷ []))) ("0,0,1,0,0,0,0" ∷ "refused,32,6" ∷ [])
+    -- after a run line too: a number out of range, an unknown kind, a line of the wrong form, another pred line
+    × Prints (file (opening ++ ("run,0,1,0" ∷ "run,0,0,0" ∷ "run,0,1,0" ∷ []))) ("0,0,0,12,0,0,0" ∷ "refused,31,5" ∷ [])
+    × Prints (file (opening ++ ("run,0,1,0" ∷ "stop,0,0,0" ∷ "run,0,1,0" ∷ []))) ("0,0,0,12,0,0,0" ∷ "refused,32,5" ∷ [])
+    × Prints (file (opening ++ ("run,0,1,0" ∷ "run,0,1" ∷ "run,0,1,0" ∷ []))) ("0,0,0,12,0,0,0" ∷ "refused,31,5" ∷ [])
+    × Prints (file (opening ++ ("run,0,1,0" ∷ "pred,0,0,0" ∷ "run,0,1,0" ∷ []))) ("0,0,0,12,0,0,0" ∷ "refused,32,5" ∷ [])
 
 -- ---- 5: 31, by its causes
 -- each is the second line of a file
@@ -171,6 +176,23 @@ NoneAtTheOp =
     × Prints (file ("kind,a,b,c" ∷ "lock,3,5,16" ∷ "pred,1,5,13" ∷ "op,15,1,0" ∷ [])) []
     × Prints (file ("kind,a,b,c" ∷ "lock,3,5,16" ∷ "pred,1,5,13" ∷ "op,16,1,0" ∷ [])) ("refused,32,4" ∷ [])
 
+-- ---- 8: the rows are those of the lock, the scripts and the threads that the lines say, each seen in a row
+abbrev pub RunsAsRead : Type 0
+RunsAsRead =
+    -- M is 2, two readers (case C)
+    Prints (file ("kind,a,b,c" ∷ "lock,2,5,2" ∷ "pred,0,0,0" ∷ "op,0,1,0" ∷ "op,1,1,0" ∷ "run,0,3,0" ∷ "run,1,2,0" ∷ []))
+    ("0,0,1,0,0,0,0" ∷ "1,0,2,0,1,0,1" ∷ "2,0,3,0,0,0,1" ∷ "3,1,1,0,1,0,1" ∷ "4,1,2,0,1,0,2" ∷ [])
+    -- the first value is 13
+    × Prints (file ("kind,a,b,c" ∷ "lock,3,13,1" ∷ "pred,1,5,13" ∷ "op,0,1,0" ∷ "op,0,2,0" ∷ "run,0,4,0" ∷ []))
+    ("0,0,1,0,0,0,0" ∷ "1,0,2,0,1,0,1" ∷ "2,0,3,0,0,0,1" ∷ "3,0,5,0,13,0,1" ∷ [])
+    -- 5 or 13 is permitted: 7 is refused at its release (case K), 13 is put and read
+    × Prints (file (opening ++ ("op,0,4,0" ∷ "op,0,5,7" ∷ "run,0,4,0" ∷ [])))
+    ("0,0,7,0,1,1,0" ∷ "1,0,8,0,0,1,0" ∷ "2,0,9,0,5,1,0" ∷ "3,0,0,16,0,1,0" ∷ [])
+    × Prints (file (opening ++ ("op,0,4,0" ∷ "op,0,5,13" ∷ "op,0,1,0" ∷ "op,0,2,0" ∷ "run,0,9,0" ∷ [])))
+    ("0,0,7,0,1,1,0" ∷ "1,0,8,0,0,1,0" ∷ "2,0,9,0,5,1,0" ∷ "3,0,10,0,13,1,0" ∷ "4,0,11,0,0,0,0" ∷ "5,0,1,0,0,0,0" ∷ "6,0,2,0,1,0,1" ∷ "7,0,3,0,0,0,1" ∷ "8,0,5,0,13,0,1" ∷ [])
+    -- the first thread that there is none of
+    × Prints (file (opening ++ ("run,1,1,0" ∷ []))) ("0,1,0,11,0,0,0" ∷ [])
+
 -- ---- the one statement
 abbrev pub Cases : Type 0
 Cases =
@@ -193,3 +215,4 @@ Cases =
     × TooLong
     × TooLongAndWrong
     × NoneAtTheOp
+    × RunsAsRead

@@ -4,6 +4,8 @@ pub mod Refused
 pub mod Printed
 pub mod PredLine
 pub mod Setup
+pub mod Named
+pub mod Numbered
 pub mod ByBytes
 pub mod Pieces
 pub mod Cases
