@@ -188,5 +188,5 @@ short = (time-short, changed-short, change-short, front-short)
 
 -- ---- the edges
 pub edges : Edges
-unfolding binary rcLine excLine timeLine text digitsTo
-edges = (refl, refl, refl, refl, refl, refl, refl, refl, refl)
+unfolding binary rcLine excLine timeLine changed text digitsTo
+edges = (refl, refl, refl, refl, refl, refl, refl, refl, refl, refl)

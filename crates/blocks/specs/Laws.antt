@@ -67,3 +67,5 @@ Edges =
     × (binary (2 ^ 63) ≡ bytes "1000000000000000000000000000000000000000000000000000000000000000")
     × (rcLine 0 ≡ bytes "b0 r\n") × (rcLine 5 ≡ bytes "b101 r\n") × (excLine 0 ≡ bytes "0e\n") × (excLine 1 ≡ bytes "1e\n")
     × (timeLine 10 ≡ bytes "#10\n")
+    -- where both change, exc comes first
+    × (changed (record { exc = 0; rc = 0 }) (record { exc = 1; rc = 5 }) ≡ bytes "1e\nb101 r\n")
