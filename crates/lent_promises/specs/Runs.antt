@@ -1,11 +1,12 @@
 -- What a run over a lent list, a later piece and a run of one entry leave, and that their answers are exact, whatever the state: said of
 -- what the functions of `lent_lock` return and leave in the lent lists.
-use Prim.Native.Nat.{ℕ, _*_, _<_, _≤_}
+use Prim.Native.Nat.{ℕ, _*_, _≤_}
 use mathlib.Core.Path.{_≡_}
 use mathlib.Core.Logic.{_≢_}
 use mathlib.Core.List.{List, [], _∷_, _++_}
 use lib.Dec.{eqb}
 use lib.ListN.{length, getD, take, drop}
+use Rattle.cell.specs.declared.pred.Pred.{Pred}
 use Rattle.machine.specs.Names.{rowWords}
 use Rattle.machine.specs.Words.{bit}
 use Rattle.machine.specs.Refusals.{Exact}
@@ -15,14 +16,12 @@ use Rattle.machine.specs.Run.{wordsOf}
 use Rattle.machine.specs.When.{AtEntry, AtRun, AtDrain}
 use Rattle.machine.specs.declared.Lock.{Lock}
 use Rattle.machine.specs.declared.Rec.{Rec}
+use Rattle.machine.specs.declared.Start.{Start}
+use Rattle.machine.specs.declared.Start.the-variants.{Made}
 use Rattle.lent_lock.specs.declared.run.Ran.{Ran}
 use Rattle.lent_lock.specs.declared.drain.Drained.{Drained}
 use Rattle.promises.specs.Runs.{IsRun}
-use Rattle.cell.specs.declared.pred.Pred.{Pred}
-use Rattle.machine.specs.declared.Start.{Start}
-use Rattle.machine.specs.declared.Start.the-variants.{Made}
-use Rattle.machine.specs.SetupLaws.{Unused, Fresh}
-use Rattle.promises.specs.Answers.{ExactRefusal, SetupSays}
+use Rattle.promises.specs.Answers.{ExactRefusal, SetupSays, BeginsWith}
 use Rattle.lent_promises.specs.Reached.{GivenBySetup, GivenByRun, GivenByRest, GivenByStep, GivenByDrain}
 
 -- ---- a run that is not refused is machine's run of the first entries of its schedule
@@ -87,7 +86,7 @@ SetupAnswer =
 abbrev pub SetupState : Type 0
 SetupState =
     (s : Lent) (q : Pred) (m v : ℕ) (l : List Rec) (start : Start) (l′ : List Rec) (L : Lock) → GivenBySetup s q m v l start l′ → start ≡ Made L
-    → Unused q m v L × (length l′ ≡ length l) × ((i : ℕ) (none : Rec) → i < length l → Fresh (getD l′ i none))
+    → BeginsWith q m v L (length l) l′
 
 abbrev pub RunAnswer : Type 0
 RunAnswer =

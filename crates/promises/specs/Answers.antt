@@ -50,14 +50,15 @@ abbrev pub SetupAnswerByValue : Type 0
 SetupAnswerByValue =
     (s : Lent) (q : Pred) (m v count : ℕ) (recs : List Rec) (b : Begun) → ReturnedBySetup s q m v count recs b → SetupSays q m v s count (b .start)
 
--- the lock that is made is an unused one, and every record has done nothing
+-- the lock that is made is an unused one, and there are so many records, which have done nothing
+abbrev pub BeginsWith : Pred → ℕ → ℕ → Lock → ℕ → List Rec → Type 0
+BeginsWith q m v L n l = Unused q m v L × (length l ≡ n) × ((i : ℕ) (none : Rec) → i < n → Fresh (getD l i none))
+
 abbrev pub SetupState : Type 0
 SetupState =
     (s : Lent) (q : Pred) (m v : ℕ) (l : List Rec) (start : Start) (l′ : List Rec) (L : Lock)
     → start ≡ setup q m v s (length l) → l′ ≡ setupRecs q m v s l → start ≡ Made L
-    → Unused q m v L
-    × (length l′ ≡ length l)
-    × ((i : ℕ) (none : Rec) → i < length l → Fresh (getD l′ i none))
+    → BeginsWith q m v L (length l) l′
 
 -- of the first `count` records; the other records of the array stay
 abbrev pub SetupStateByValue : Type 0
