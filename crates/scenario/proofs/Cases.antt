@@ -14,7 +14,7 @@ use Rattle.lines.specs.Judge.{equal, clean, fields as split, kinds, judge}
 use Rattle.scenario.specs.Scenario.{taken}
 use Rattle.scenario.specs.Refused.{refusalOf}
 use Rattle.scenario.specs.Printed.{next, ended, rowsText, output, printed}
-use Rattle.scenario.specs.Cases.{CaseA, NoLastBreak, NoRunLine, NoOpLine, RowsStand, WrongForm, TwoReturns, FirstLine, Longest, WrongNumber, WrongHeader, WrongOrder, Missing, AtThePred, NoneAtThePred, AtTheOp, TooLong, TooLongAndWrong, NoneAtTheOp, RunsAsRead, Cases}
+use Rattle.scenario.specs.Cases.{CaseA, NoLastBreak, NoRunLine, NoOpLine, RowsStand, WrongForm, TwoReturns, FirstLine, Longest, WrongNumber, WrongHeader, WrongOrder, BadLater, Missing, AtThePred, NoneAtThePred, AtTheOp, TooLong, TooLongAndWrong, NoneAtTheOp, RunsAsRead, Cases}
 
 case-a : CaseA
 unfolding permits good ofKind lowest act fits sum entryRefusal answer step total find setupRefusal run digitsTo text fields lastField header rowText refusal lines across digits plainly decimal number equal clean split kinds judge taken refusalOf next ended rowsText output printed
@@ -64,6 +64,10 @@ wrong-order : WrongOrder
 unfolding permits good ofKind lowest act fits sum entryRefusal answer step total find setupRefusal run digitsTo text fields lastField header rowText refusal lines across digits plainly decimal number equal clean split kinds judge taken refusalOf next ended rowsText output printed
 wrong-order = (refl, refl, refl, refl, refl, refl, refl, refl)
 
+bad-later : BadLater
+unfolding permits good ofKind lowest act fits sum entryRefusal answer step total find setupRefusal run digitsTo text fields lastField header rowText refusal lines across digits plainly decimal number equal clean split kinds judge taken refusalOf next ended rowsText output printed
+bad-later = (refl, refl, refl, refl, refl)
+
 missing : Missing
 unfolding permits good ofKind lowest act fits sum entryRefusal answer step total find setupRefusal run digitsTo text fields lastField header rowText refusal lines across digits plainly decimal number equal clean split kinds judge taken refusalOf next ended rowsText output printed
 missing = (refl, refl, refl)
@@ -97,4 +101,4 @@ unfolding permits good ofKind lowest act fits sum entryRefusal answer step total
 runs-as-read = (refl, refl, refl, refl, refl)
 
 pub cases : Cases
-cases = (case-a, no-last-break, no-run-line, no-op-line, rows-stand, wrong-form, two-returns, first-line, longest, wrong-number, wrong-header, wrong-order, missing, at-the-pred, none-at-the-pred, at-the-op, too-long, too-long-and-wrong, none-at-the-op, runs-as-read)
+cases = (case-a, no-last-break, no-run-line, no-op-line, rows-stand, wrong-form, two-returns, first-line, longest, wrong-number, wrong-header, wrong-order, bad-later, missing, at-the-pred, none-at-the-pred, at-the-op, too-long, too-long-and-wrong, none-at-the-op, runs-as-read)

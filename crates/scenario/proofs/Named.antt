@@ -2,12 +2,12 @@
 -- nothing.
 use Prim.Native.Nat.{ℕ, zero, suc, _+_, _-_, _<_, _≤_}
 use mathlib.Core.Bool.{Bool, true, false, _||_, not, cond, false≢true}
-use mathlib.Core.Path.{_≡_, refl, sym, ap, subst⁻¹, _∙_}
+use mathlib.Core.Path.{_≡_, refl, sym, ap, subst, subst⁻¹, _∙_}
 use mathlib.Core.List.{List, [], _∷_, _++_, map, append-nil, append-assoc}
 use mathlib.Core.Logic.{_≢_}
 use native.Mathlib.Nat.{zero-add}
 use native.Mathlib.Omega.{arith}
-use borrow.Author.Tests.{leb-false, ltb-false, eqb-true, eqb-false, ne-eqb}
+use borrow.Author.Tests.{leb-false, ltb-false, eqb-true, eqb-false, ne-eqb, not-false}
 use lib.Dec.{eqb, ltb, leb}
 use lib.ListN.{length, getD, take, replicate, length-append}
 use Rattle.cell.specs.Pred.{permits, good, ofKind}
@@ -33,7 +33,7 @@ use Rattle.scenario.specs.Scenario.{Scenario, predOf, withPred, withOp, 
 use Rattle.scenario.specs.Refused.{stageNo, at, broken, misplaced, asked, setupNumber, refusalOf}
 use Rattle.scenario.specs.Printed.{Reading, reading, afterLine, next, ended, start, rowsOf, rowsText, refusalText, output, printed}
 use Rattle.scenario.specs.Setup.{Accepted}
-use Rattle.scenario.specs.Named.{scriptsFrom, entriesOf, no-line, op-line, run-line, NamedBy, takenOf, AsNamed, rowsNamed, PrintsNamed, PrintsNoRow}
+use Rattle.scenario.specs.Named.{scriptsFrom, entriesOf, no-line, op-line, run-line, NamedBy, takenOf, AsNamed, TakenBefore, rowsNamed, PrintsNamed, PrintsNoRow}
 use Rattle.scenario.proofs.PredLine.{of-pred}
 use Rattle.scenario.proofs.Scripts.{scripts-run, lent-op, lent-none, entries-append}
 use Rattle.scenario.proofs.Setup.{passes, neither, keeps-accepted}
@@ -50,22 +50,39 @@ So ls s AtPred = (ls ≡ Header ∷ Lock (s .top) (s .first) (s .threads) ∷ []
 So ls s AtOps = NamedBy ls s
 So ls s AtRuns = NamedBy ls s
 
+-- the stage that is tested for is the stage
+unfoldable stageOf : ℕ → Stage
+stageOf zero = AtHeader
+stageOf (suc zero) = AtLock
+stageOf (suc (suc zero)) = AtPred
+stageOf (suc (suc (suc zero))) = AtOps
+stageOf (suc (suc (suc (suc k)))) = AtRuns
+
+numbered : (p : Stage) → stageOf (stageNo p) ≡ p
+unfolding stageOf
+numbered AtHeader = refl
+numbered AtLock = refl
+numbered AtPred = refl
+numbered AtOps = refl
+numbered AtRuns = refl
+
+at-is : (p q : Stage) → at p q ≡ true → p ≡ q
+at-is p q e = sym (numbered p) ∙ ap stageOf (eqb-true (stageNo p) (stageNo q) e) ∙ numbered q
+
+at-not : (p q : Stage) → not (at p q) ≡ false → p ≡ q
+at-not p q e = at-is p q (not-false (at p q) e)
+
 -- ---- one line more, by its kind
 module _ (ls : List Line) (s : Scenario) where
-  so-header : (p : Stage) → So ls s p → broken p Header ≡ false → (ls ++ (Header ∷ []) ≡ Header ∷ []) × NoneYet s
-  so-header AtHeader so e = (rw (so .0), so .1)
-  so-header AtLock so e = absurd (false≢true (sym e))
-  so-header AtPred so e = absurd (false≢true (sym e))
-  so-header AtOps so e = absurd (false≢true (sym e))
-  so-header AtRuns so e = absurd (false≢true (sym e))
+  -- what is read, at a stage that is known
+  so-at : (q : Stage) → s .stage ≡ q → So ls s (s .stage) → So ls s q
+  so-at q e so = subst (λ (p : Stage). So ls s p) e so
 
-  so-lock : (p : Stage) (m v n : ℕ) → So ls s p → not (at p AtLock) ≡ false
-      → (ls ++ (Lock m v n ∷ []) ≡ Header ∷ Lock m v n ∷ []) × NoneYet s
-  so-lock AtHeader m v n so e = absurd (false≢true (sym e))
-  so-lock AtLock m v n so e = (rw (so .0), so .1)
-  so-lock AtPred m v n so e = absurd (false≢true (sym e))
-  so-lock AtOps m v n so e = absurd (false≢true (sym e))
-  so-lock AtRuns m v n so e = absurd (false≢true (sym e))
+  so-header : So ls s AtHeader → (ls ++ (Header ∷ []) ≡ Header ∷ []) × NoneYet s
+  so-header so = (rw (so .0), so .1)
+
+  so-lock : (m v n : ℕ) → So ls s AtLock → (ls ++ (Lock m v n ∷ []) ≡ Header ∷ Lock m v n ∷ []) × NoneYet s
+  so-lock m v n so = (rw (so .0), so .1)
 
   -- a kind that names no predicate is refused
   refused-3 : (a b permitted : Bool)
@@ -80,12 +97,10 @@ module _ (ls : List Line) (s : Scenario) where
   so-known Unknown none =
       absurd (refused-3 (eqb (s .threads) 0 || ltb 16 (s .threads)) (eqb (s .top) 0) (permits (Parity 2) (s .first)) (sym (of-pred s (Parity 2)) ∙ none))
 
-  so-pred : (p : Stage) (kind a b : ℕ) → So ls s p → not (at p AtPred) ≡ false → asked (withPred s (predOf (ofKind kind a b))) ≡ 0
+  so-pred : (kind a b : ℕ) → So ls s AtPred → asked (withPred s (predOf (ofKind kind a b))) ≡ 0
       → NamedBy (ls ++ (PredLine kind a b ∷ [])) (withPred s (predOf (ofKind kind a b)))
   unfolding entriesOf
-  so-pred AtHeader kind a b so e none = absurd (false≢true (sym e))
-  so-pred AtLock kind a b so e none = absurd (false≢true (sym e))
-  so-pred AtPred kind a b so e none =
+  so-pred kind a b so none =
       record {
         kind = kind;
         a = a;
@@ -97,17 +112,8 @@ module _ (ls : List Line) (s : Scenario) where
         scripts = sym (lent-none (s .threads));
         schedule = so .1 .0;
       }
-  so-pred AtOps kind a b so e none = absurd (false≢true (sym e))
-  so-pred AtRuns kind a b so e none = absurd (false≢true (sym e))
 
   -- ---- after the pred line
-  at-ops : (p : Stage) → at p AtOps ≡ true → p ≡ AtOps
-  at-ops AtHeader e = absurd (false≢true e)
-  at-ops AtLock e = absurd (false≢true e)
-  at-ops AtPred e = absurd (false≢true e)
-  at-ops AtOps e = refl
-  at-ops AtRuns e = absurd (false≢true e)
-
   so-op : NamedBy ls s → (t code value : ℕ) → s .stage ≡ AtOps → Accepted s → t < s .threads → s .thread ≤ t
       → NamedBy (ls ++ (Op t code value ∷ [])) (withOp s t code value)
   unfolding entriesOf
@@ -166,16 +172,18 @@ Read ls s = So ls s (s .stage) × (3 ≤ stageNo (s .stage) → Accepted s)
 so-line : (ls : List Line) (s : Scenario) (l : Line) → Read ls s → refusalOf s l ≡ 0 → So (ls ++ (l ∷ [])) (taken s l) (taken s l .stage)
 unfolding refusalOf taken
 so-line ls s Broken r e = absurd (omega (arith, e))
-so-line ls s Header r e = so-header ls s (s .stage) (r .0) (passes (broken (s .stage) Header) false 0 e .0)
+so-line ls s Header r e =
+    so-header ls s (so-at ls s AtHeader (at-not (s .stage) AtHeader (passes (broken (s .stage) Header) false 0 e .0)) (r .0))
 so-line ls s BadNumber r e = absurd (false≢true (sym (passes (broken (s .stage) BadNumber) true 0 e .1)))
-so-line ls s (Lock m v n) r e = so-lock ls s (s .stage) m v n (r .0) (passes false (misplaced s (Lock m v n)) 0 e .1)
+so-line ls s (Lock m v n) r e =
+    so-lock ls s m v n (so-at ls s AtLock (at-not (s .stage) AtLock (passes false (misplaced s (Lock m v n)) 0 e .1)) (r .0))
 so-line ls s (PredLine kind a b) r e =
     let p = passes false (misplaced s (PredLine kind a b)) (setupNumber s (PredLine kind a b)) e in
-    so-pred ls s (s .stage) kind a b (r .0) (p .1) (p .2)
+    so-pred ls s kind a b (so-at ls s AtPred (at-not (s .stage) AtPred (p .1)) (r .0)) (p .2)
 so-line ls s (Op t code value) r e =
     let p = passes false (misplaced s (Op t code value)) (setupNumber s (Op t code value)) e in
     let n = neither (at (s .stage) AtOps) (leb (s .threads) t) (ltb t (s .thread)) (p .1) in
-    let stage = at-ops ls s (s .stage) (n .0) in
+    let stage = at-is (s .stage) AtOps (n .0) in
     let late : 3 ≤ stageNo (s .stage) = omega (arith, eqb-true (stageNo (s .stage)) 3 (n .0)) in
     let named = named-at ls s (s .stage) late (r .0) in
     let more = so-op ls s named t code value stage (r .1 late) (leb-false (s .threads) t (n .1)) (ltb-false t (s .thread) (n .2)) in
@@ -266,6 +274,12 @@ pub as-named : AsNamed
 as-named file late =
     let s = across next start (lines file) .scenario in
     named-at (map judge (take (takenOf (across next start (lines file))) (lines file))) s (s .stage) late (all-read file .0)
+
+pub taken-before : TakenBefore
+taken-before file =
+    let s = across next start (lines file) .scenario in
+    let ls = map judge (take (takenOf (across next start (lines file))) (lines file)) in
+    (λ e. so-at ls s AtHeader e (all-read file .0) .0, λ e. so-at ls s AtLock e (all-read file .0) .0, λ e. so-at ls s AtPred e (all-read file .0) .0)
 
 -- ---- what is printed
 rows-named : {ls : List Line} {s : Scenario} (named : NamedBy ls s) → rowsOf s ≡ rowsNamed named

@@ -53,6 +53,10 @@ RowsStand =
 abbrev pub Second : String → String → Type 0
 Second line why = Prints (file ("kind,a,b,c" ∷ line ∷ [])) (why ∷ [])
 
+-- each is the line after this lock line
+abbrev pub Third : String → String → Type 0
+Third line why = Prints (file ("kind,a,b,c" ∷ "lock,3,5,1" ∷ line ∷ [])) (why ∷ [])
+
 -- each is the line after the opening
 abbrev pub Fourth : String → String → Type 0
 Fourth line why = Prints (file (opening ++ (line ∷ []))) (why ∷ [])
@@ -115,6 +119,15 @@ WrongOrder =
     × Fourth "op,1,1,0" "refused,32,4"
     × Prints (file ("kind,a,b,c" ∷ "lock,3,5,2" ∷ "pred,0,0,0" ∷ "op,1,1,0" ∷ "op,0,1,0" ∷ [])) ("refused,32,5" ∷ [])
     × Prints (file (opening ++ ("run,0,1,0" ∷ "op,0,1,0" ∷ []))) ("0,0,0,12,0,0,0" ∷ "refused,32,5" ∷ [])
+
+-- a bad line at the third and at the fourth place: an unknown kind, a line of the wrong form, a broken number
+abbrev pub BadLater : Type 0
+BadLater =
+    Third "foo,1,2,3" "refused,32,3"
+    × Third "pred,1,5" "refused,31,3"
+    × Third "pred,1,5,x" "refused,31,3"
+    × Fourth "foo,1,2,3" "refused,32,4"
+    × Fourth "op,0,1" "refused,31,4"
 
 -- a missing line, at the line after the last
 abbrev pub Missing : Type 0
@@ -208,6 +221,7 @@ Cases =
     × WrongNumber
     × WrongHeader
     × WrongOrder
+    × BadLater
     × Missing
     × AtThePred
     × NoneAtThePred

@@ -20,7 +20,7 @@ use Rattle.lines.specs.Judge.{judge}
 use Rattle.lines.specs.declared.Line.{Line}
 use Rattle.lines.specs.declared.Line.the-variants.{Broken, Header, BadNumber, Lock, Pred as PredLine, Op as OpLine, Run as RunLine, NoKind}
 use Rattle.scenario.specs.declared.Stage.{Stage}
-use Rattle.scenario.specs.declared.Stage.the-variants.{Ops as AtOps, Runs as AtRuns}
+use Rattle.scenario.specs.declared.Stage.the-variants.{Header as AtHeader, Lock as AtLock, Pred as AtPred, Ops as AtOps, Runs as AtRuns}
 use Rattle.scenario.specs.Scenario.{Scenario}
 use Rattle.scenario.specs.Refused.{stageNo}
 use Rattle.scenario.specs.Printed.{Reading, start, next, ended, rowsText, refusalText, printed}
@@ -85,6 +85,14 @@ linesTaken file = map judge (take (takenOf (whole next start file)) (lines file)
 -- from the pred line on: what is read is what the lines name that were taken
 abbrev pub AsNamed : Type 0
 AsNamed = (file : List ℕ) → let s = whole next start file .scenario in 3 ≤ stageNo (s .stage) → NamedBy (linesTaken file) s
+
+-- before it: the header and the lock line alone were taken
+abbrev pub TakenBefore : Type 0
+TakenBefore =
+    (file : List ℕ) → let s = whole next start file .scenario in
+    (s .stage ≡ AtHeader → linesTaken file ≡ [])
+    × (s .stage ≡ AtLock → linesTaken file ≡ Header ∷ [])
+    × (s .stage ≡ AtPred → linesTaken file ≡ Header ∷ Lock (s .top) (s .first) (s .threads) ∷ [])
 
 -- the rows of the lock, the scripts and the schedule that lines name
 abbrev pub rowsNamed : {ls : List Line} {s : Scenario} → NamedBy ls s → List Row
