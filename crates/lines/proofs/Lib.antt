@@ -6,3 +6,4 @@ pub mod Laws
 pub mod Takes
 pub mod Edges
 pub mod Split
+pub mod Chunks

@@ -5,5 +5,6 @@ pub mod Number
 pub mod Judge
 pub mod Held
 pub mod Laws
+pub mod Chunks
 pub mod Edges
 pub mod Split
