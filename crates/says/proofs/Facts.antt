@@ -19,7 +19,7 @@ module _ {M : Type 1} (𝓤 : URA M) where
   hear-1 φ Q k = fact-use 𝓤 φ (id⊢ 𝓤 (fact 𝓤 φ)) (λ x. k x (fact 𝓤 φ))
 
   -- the first fact, beside the rest
-  hear-more : (φ : Type 0) (R Q : SProp 𝓤) → (φ → ent 𝓤 R Q) → ent 𝓤 (sep 𝓤 (fact 𝓤 φ) R) Q
+  pub hear-more : (φ : Type 0) (R Q : SProp 𝓤) → (φ → ent 𝓤 R Q) → ent 𝓤 (sep 𝓤 (fact 𝓤 φ) R) Q
   hear-more φ R Q k = fact-use 𝓤 φ (fst∗ 𝓤 (fact 𝓤 φ) R) (λ x. via 𝓤 R (snd∗ 𝓤 (fact 𝓤 φ) R) (k x))
 
   hear-2 : (φ ψ : Type 0) (Q : SProp 𝓤) → (φ → ψ → (P : SProp 𝓤) → ent 𝓤 P Q) → ent 𝓤 (sep 𝓤 (fact 𝓤 φ) (fact 𝓤 ψ)) Q

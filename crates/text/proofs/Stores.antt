@@ -81,3 +81,14 @@ room-by false len at most h e = sym (lt-leb (at + most) len (omega (arith, leb-f
 
 pub room-left : (len at most : ℕ) → most ≤ len → leb at (len - most) ≡ leb (at + most) len
 room-left len at most h = room-by (leb at (len - most)) len at most h refl
+
+-- ---- tests
+-- two tests that hold together
+pub tests-alike : (a b c d : ℕ) → (a ≤ b → c ≤ d) → (c ≤ d → a ≤ b) → leb a b ≡ leb c d
+tests-alike a b c d to from = go (leb a b) refl (leb c d) refl
+  where
+    go : (s : Bool) → leb a b ≡ s → (t : Bool) → leb c d ≡ t → s ≡ t
+    go true e true f = refl
+    go false e false f = refl
+    go true e false f = absurd (omega (arith, leb-false c d f, to (leb-true a b e)))
+    go false e true f = absurd (omega (arith, leb-false a b e, from (leb-true c d f)))

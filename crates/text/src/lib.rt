@@ -1,7 +1,7 @@
 // What is printed, as text in a lent list: numbers, rows, the header and a refusal. Each `put` function stores its text from a place on and
 // returns the place after it. Where the longest such text has no room, nothing is stored and the place given is returned; no text but that of no
 // bytes is empty, so the caller can tell.
-ghost use Prim.Native.Nat.{_+_, _≤_, _<_};
+ghost use Prim.Native.Nat.{_+_, _*_, _≤_, _<_};
 ghost use mathlib.Core.Path.{_≡_};
 ghost use mathlib.Core.List.{_++_, [], _∷_};
 ghost use lib.Dec.{leb};
@@ -21,7 +21,10 @@ pub const ROW: usize = 148;
 const HEADER: usize = 35;
 
 // Of a refusal: the word with its comma, two numbers, a comma and the break.
-const REFUSAL: usize = 51;
+pub const REFUSAL: usize = 51;
+
+// The words of a row.
+pub const ROW_WORDS: usize = 6;
 
 const COMMA: u8 = 44;
 
@@ -74,6 +77,13 @@ pub fn put_bytes(out: &mut [u8], at: usize, s: &[u8]) -> usize
         return write_bytes(out, at, s);
     }
     at
+}
+
+// So many words hold n rows.
+pub fn has_rows(words: usize, n: usize) -> bool
+    ensures { λ r. ⌜ r ≡ leb (6 * n) words ⌝ }
+{
+    n <= words / ROW_WORDS
 }
 
 // Whether `most` bytes have room from `at` on; at + most may not fit a number.
