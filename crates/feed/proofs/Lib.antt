@@ -1,3 +1,9 @@
 pub mod Places
 pub mod Moves
 pub mod Turns
+pub mod Runs
+pub mod RunLine
+pub mod Digits
+pub mod Stands
+pub mod Onward
+pub mod Worlds

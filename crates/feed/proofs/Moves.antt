@@ -12,9 +12,9 @@ use Rattle.lines.specs.declared.bytes.Held.{Held}
 use Rattle.lines.specs.declared.bytes.Taken.{Taken}
 use Rattle.stages.specs.Kept.{onLine, lensAfter, opsAfter, valsAfter}
 use Rattle.stages.specs.declared.Read.{Read}
-use Rattle.pieces.specs.Piece.{printedOf, storedOf}
+use Rattle.pieces.specs.Piece.{leftOf, storedOf}
 use Rattle.pieces.specs.declared.Standing.{Standing}
-use Rattle.pieces.specs.declared.Printed.{Printed}
+use Rattle.pieces.specs.declared.Left.{Left}
 use Rattle.feed.specs.declared.State.{State}
 use Rattle.feed.specs.Feed.{World, stateWith, runs, takes, ends}
 use Rattle.feed.specs.Code.{lockWorld, otherWorld, lineWorld, fedOf, closedWith}
@@ -25,36 +25,36 @@ Reads r l lens ops vals q lens′ ops′ vals′ =
     (q ≡ onLine r l lens) × ((lens′ ≡ lensAfter r l lens) × ((ops′ ≡ opsAfter r l lens ops) × (vals′ ≡ valsAfter r l lens vals)))
 
 -- ---- the input's end
-module _ (s : State) (line lens ops vals : List ℕ) (from at : ℕ) {h : Held} {line′ : List ℕ} (done : (h ≡ heldEnd (s .held)) × (line′ ≡ lineEnd line (s .held))) {t : State} where
+module _ (s : State) (line lens ops vals : List ℕ) (from : ℕ) {h : Held} {line′ : List ℕ} (done : (h ≡ heldEnd (s .held)) × (line′ ≡ lineEnd line (s .held))) {t : State} where
   pub ends-with : {q : Read} {lens′ ops′ vals′ : List ℕ} → h .done ≡ true → Reads (s .read) (judge (view line′ (h .len))) lens ops vals q lens′ ops′ vals′
-      → t ≡ closedWith s q → lineWorld t line′ lens′ ops′ vals′ from at ≡ ends (lineWorld s line lens ops vals from at)
+      → t ≡ closedWith s q → lineWorld t line′ lens′ ops′ vals′ from ≡ ends (lineWorld s line lens ops vals from)
   ends-with d e f = rw (f, e .0, e .1 .0, e .1 .1 .0, e .1 .1 .1, ← done .0, ← done .1, d) refl
 
-  pub ends-without : h .done ≡ false → t ≡ closedWith s (s .read) → lineWorld t line′ lens ops vals from at ≡ ends (lineWorld s line lens ops vals from at)
+  pub ends-without : h .done ≡ false → t ≡ closedWith s (s .read) → lineWorld t line′ lens ops vals from ≡ ends (lineWorld s line lens ops vals from)
   ends-without d f = rw (f, ← done .0, ← done .1, d) refl
 
 -- ---- bytes of a chunk
-module _ (chunk : List ℕ) (s : State) (line lens ops vals : List ℕ) (from at : ℕ) where
+module _ (chunk : List ℕ) (s : State) (line lens ops vals : List ℕ) (from : ℕ) where
   abbrev here : Took
   here = took (drop from chunk) line (s .held)
 
   module _ {x : Taken} {line′ : List ℕ} (done : (x ≡ takenFrom from here) × (line′ ≡ here .line)) {t : State} where
     pub takes-a-line : {q : Read} {lens′ ops′ vals′ : List ℕ} → x .held .done ≡ true → Reads (s .read) (judge (view line′ (x .held .len))) lens ops vals q lens′ ops′ vals′
-        → t ≡ stateWith s unheld q (s .gathered) → lineWorld t line′ lens′ ops′ vals′ (x .at) at ≡ takes chunk (lineWorld s line lens ops vals from at)
+        → t ≡ stateWith s unheld q (s .gathered) → lineWorld t line′ lens′ ops′ vals′ (x .at) ≡ takes chunk (lineWorld s line lens ops vals from)
     takes-a-line d e f = rw (f, e .0, e .1 .0, e .1 .1 .0, e .1 .1 .1, done .1, done .0, rw (done .0) at d) refl
 
     pub takes-no-line : x .held .done ≡ false → t ≡ stateWith s (x .held) (s .read) (s .gathered)
-        → lineWorld t line′ lens ops vals (x .at) at ≡ takes chunk (lineWorld s line lens ops vals from at)
+        → lineWorld t line′ lens ops vals (x .at) ≡ takes chunk (lineWorld s line lens ops vals from)
     takes-no-line d f = rw (f, done .1, done .0, rw (done .0) at d) refl
 
 -- ---- the entries that wait
 pub runs-waiting : (s : State) (p : Standing) (lens ops vals schedule : List ℕ) (from : ℕ) (out : List ℕ) (at : ℕ) {a b d e : List ℕ}
     → a ≡ take (s .read .threads) lens → b ≡ take (s .read .count) ops → d ≡ take (s .read .count) vals → e ≡ take (s .gathered) schedule
-    → {r : Printed} {out′ : List ℕ} → (r ≡ printedOf (lists a b d) p e out at) × (out′ ≡ storedOf (lists a b d) p e out at)
+    → {r : Left} {out′ : List ℕ} → (r ≡ leftOf (lists a b d) p e out at) × (out′ ≡ storedOf (lists a b d) p e out at)
     → let w = lockWorld s p lens ops vals schedule from out at in
     (record { state = stateWith s (s .held) (s .read) 0; standing = r .standing; from = from; at = r .at } ≡ fedOf (runs w)) × (out′ ≡ runs w .out)
 runs-waiting s p lens ops vals schedule from out at ea eb ed ee ran = rw (← ea, ← eb, ← ed, ← ee, ran .0, ran .1) (refl, refl)
 
 -- ---- what a line has nothing to do with
-abbrev pub besides : List ℕ → List ℕ → World → World
-besides schedule out w = otherWorld (w .state) (w .line) (w .lens) (w .ops) (w .vals) schedule (w .from) out (w .at)
+abbrev pub besides : List ℕ → World → World
+besides schedule w = otherWorld (w .state) (w .line) (w .lens) (w .ops) (w .vals) schedule (w .from)

@@ -1,11 +1,11 @@
--- Places of a list: the first of them, as far as there are places, and one value stored again and again. Assumes nothing.
+-- Places of a list: the first of them, as far as there are places, one value stored again and again, and a part of another list. Assumes nothing.
 use Prim.Native.Nat.{ℕ, zero, suc, min, _+_, _-_, _<_, _≤_}
 use mathlib.Core.Path.{_≡_, refl, ap, _∙_}
 use mathlib.Core.List.{List, [], _∷_}
 use native.Mathlib.Numerals.{add-one}
 use native.Mathlib.Omega.{arith}
-use lib.ListN.{length, set, take, replicate}
-use lib.Seq.{sets, set-out}
+use lib.ListN.{length, getD, set, take, replicate}
+use lib.Seq.{slice, slice-cons, slice-empty, sets, set-out}
 
 pub take-as-far : (k n : ℕ) (l : List ℕ) → k ≡ min n (length l) → take k l ≡ take n l
 take-as-far zero zero l e = refl
@@ -30,3 +30,10 @@ fills-one l k (suc left) v h =
 pub fills-none : (l : List ℕ) (k left v : ℕ) → left ≤ 0 → sets l k (replicate left v) ≡ l
 fills-none l k zero v h = refl
 fills-none l k (suc left) v h = absurd (omega arith)
+
+-- one byte of a part is stored, and the others after it
+pub copies-one : (l s : List ℕ) (k i to : ℕ) → i < to → to ≤ length s → sets (set l k (getD s i 0)) (k + 1) (slice (i + 1) to s) ≡ sets l k (slice i to s)
+copies-one l s k i to h e = rw (slice-cons i to s 0 h e, add-one k, add-one i) refl
+
+pub copies-none : (l s : List ℕ) (k i to : ℕ) → i ≡ to → sets l k (slice i to s) ≡ l
+copies-none l s k i to e = rw (e, slice-empty to s) refl

@@ -8,7 +8,7 @@ use Rattle.pieces.specs.declared.Standing.{Standing}
 use Rattle.feed.specs.declared.State.{State}
 use Rattle.feed.specs.declared.Fed.{Fed}
 use Rattle.feed.specs.declared.Move.{Move}
-use Rattle.feed.specs.declared.Move.the-variants.{Header, Stand, Piece, Gather, Refusal, Line, Close, Rest}
+use Rattle.feed.specs.declared.Move.the-variants.{Stand, Piece, Gather, Line, Close, Rest}
 use Rattle.feed.specs.Feed.{World, moved, rests, nextOf, feed}
 use Rattle.feed.specs.Code.{worldOf, lockWorld, otherWorld, fedOf, ofLock, lockMoved, otherMoved}
 
@@ -41,13 +41,6 @@ module _ (chunk : List ℕ) (final : Bool) where
     pub turn-moves : b ≡ false → {u : World} → u ≡ moved chunk w m → feed chunk final (turns - 1) u ≡ v
     turn-moves e {u} made = rw (made, next) (sym (goes-on turns w some (rw (← next) (sym asked ∙ e))) ∙ here)
 
--- ---- what a call returns of a world, and leaves in the lists
-pub all-told : {w v : World} → w ≡ v
-    → (fedOf w ≡ fedOf v)
-    × ((w .line ≡ v .line) × ((w .lens ≡ v .lens) × ((w .ops ≡ v .ops) × ((w .vals ≡ v .vals) × ((w .schedule ≡ v .schedule) × (w .out ≡ v .out))))))
-all-told e =
-    (ap fedOf e, (ap (λ (x : World). x .line) e, (ap (λ (x : World). x .lens) e, (ap (λ (x : World). x .ops) e, (ap (λ (x : World). x .vals) e, (ap (λ (x : World). x .schedule) e, ap (λ (x : World). x .out) e))))))
-
 -- ---- a move of each kind is made in its own part of the world
 module _ (chunk : List ℕ) (s : State) (p : Standing) (line lens ops vals schedule : List ℕ) (from : ℕ) (out : List ℕ) (at : ℕ) where
   abbrev whole : World
@@ -57,32 +50,28 @@ module _ (chunk : List ℕ) (s : State) (p : Standing) (line lens ops vals sched
   ofTheLock = lockWorld s p lens ops vals schedule from out at
 
   abbrev ofOthers : World
-  ofOthers = otherWorld s line lens ops vals schedule from out at
+  ofOthers = otherWorld s line lens ops vals schedule from
 
   -- what a move of the lock leaves, with the line
   abbrev lined : Fed → List ℕ → World
   lined r text = worldOf (r .state) (r .standing) line lens ops vals schedule from text (r .at)
 
-  -- what another move leaves, with the standing
+  -- what another move leaves, with the standing and the rows
   abbrev stood : World → World
-  stood w = worldOf (w .state) p (w .line) (w .lens) (w .ops) (w .vals) (w .schedule) (w .from) (w .out) (w .at)
+  stood w = worldOf (w .state) p (w .line) (w .lens) (w .ops) (w .vals) (w .schedule) (w .from) out at
 
   lock-made : (m : Move) → ofLock m ≡ true → lined (fedOf (lockMoved ofTheLock m)) (lockMoved ofTheLock m .out) ≡ moved chunk whole m
-  lock-made Header e = absurd (false≢true e)
   lock-made Stand e = refl
   lock-made Piece e = refl
   lock-made Gather e = absurd (false≢true e)
-  lock-made Refusal e = absurd (false≢true e)
   lock-made Line e = absurd (false≢true e)
   lock-made Close e = absurd (false≢true e)
   lock-made Rest e = absurd (false≢true e)
 
   other-made : (m : Move) → ofLock m ≡ false → stood (otherMoved chunk ofOthers m) ≡ moved chunk whole m
-  other-made Header e = refl
   other-made Stand e = absurd (true≢false e)
   other-made Piece e = absurd (true≢false e)
   other-made Gather e = refl
-  other-made Refusal e = refl
   other-made Line e = refl
   other-made Close e = refl
   other-made Rest e = refl

@@ -1,29 +1,28 @@
--- One move after another: what comes next, what each move does, and what a call does with a chunk and a list for text.
+-- One move after another: what comes next, what each move does, and what a call does with a chunk and a list for rows.
 use Prim.Native.Nat.{ℕ, zero, suc, _+_, _*_, _-_, min}
 use mathlib.Core.Bool.{Bool, true, false, _||_, _&&_, not, cond}
 use mathlib.Core.List.{List}
 use lib.Dec.{eqb, ltb, leb}
 use lib.ListN.{length, take, drop, replicate}
 use lib.Seq.{sets}
+use Rattle.machine.specs.Names.{rowWords}
 use Rattle.machine.specs.Lists.{Lent, lists}
 use Rattle.lines.specs.Judge.{judge}
 use Rattle.lines.specs.Held.{unheld, took, view, heldEnd, lineEnd}
 use Rattle.lines.specs.declared.Line.{Line}
 use Rattle.lines.specs.declared.bytes.Held.{Held}
-use Rattle.text.specs.Lines.{header, refusal}
-use Rattle.text.specs.Put.{stored, placeAfter}
-use Rattle.scenario.specs.Refused.{at as isAt}
-use Rattle.scenario.specs.declared.Stage.the-variants.{Runs as AtRuns}
 use Rattle.stages.specs.Kept.{begun, onLine, lensAfter, opsAfter, valsAfter, atEnd}
 use Rattle.stages.specs.Means.{withEntries}
 use Rattle.stages.specs.declared.Read.{Read}
-use Rattle.pieces.specs.Piece.{mostEntries, rowBytes, firstOf, printedOf, storedOf}
+use Rattle.pieces.specs.Piece.{mostEntries, firstOf, leftOf, storedOf}
 use Rattle.pieces.specs.declared.Standing.{Standing}
 use Rattle.feed.specs.declared.State.{State}
+use Rattle.feed.specs.declared.Stop.{Stop}
+use Rattle.feed.specs.declared.Stop.the-variants.{Wants, Full, Refused, Over}
 use Rattle.feed.specs.declared.Move.{Move}
-use Rattle.feed.specs.declared.Move.the-variants.{Header, Stand, Piece, Gather, Refusal, Line as ALine, Close, Rest}
+use Rattle.feed.specs.declared.Move.the-variants.{Stand, Piece, Gather, Line as ALine, Close, Rest}
 
--- all that a move may change: the state, the standing, the lists, the place in the chunk, the text and the place in it
+-- all that a move may change: the state, the standing, the lists, the place in the chunk, the rows as words and the place in them
 pub record World : Type 0 where
   pub state : State
   pub standing : Standing
@@ -38,12 +37,12 @@ pub record World : Type 0 where
 
 -- before the first byte
 abbrev pub fresh : State
-fresh = record { held = unheld; read = begun; gathered = 0; begun = false; stood = false; closed = false; told = false }
+fresh = record { held = unheld; read = begun; gathered = 0; stood = false; closed = false }
 
 -- ---- what comes next
--- the most bytes that a move writes: the rows of a whole piece
-abbrev pub mostText : ℕ
-mostText = rowBytes * mostEntries
+-- the most words that a move stores: the rows of a whole piece
+abbrev pub mostWords : ℕ
+mostWords = rowWords * mostEntries
 
 -- all that was gathered is run: a whole piece, or what there is where no entry comes after it
 abbrev pub ready : State → Bool
@@ -51,20 +50,20 @@ ready s =
     leb mostEntries (s .gathered)
     || (ltb 0 (s .gathered) && (eqb (s .read .«run_left») 0 && (not (eqb (s .read .refused) 0) || s .closed)))
 
--- where there is room for what a move may write; len is the chunk's length, and `final` says that no chunk comes after it
+-- where there is room for what a move may store; len is the chunk's length, and `final` says that no chunk comes after it. The lock is set up for the
+-- first entry
 unfoldable pub roomyMove : State → ℕ → ℕ → Bool → Move
 roomyMove s len from final =
-    cond (not (s .begun)) Header
-    (cond (not (s .stood) && isAt (s .read .stage) AtRuns) Stand
+    cond (not (s .stood) && ltb 0 (s .read .«run_left»)) Stand
     (cond (ready s) Piece
     (cond (ltb 0 (s .read .«run_left»)) Gather
-    (cond (not (eqb (s .read .refused) 0)) (cond (s .told) Rest Refusal)
+    (cond (not (eqb (s .read .refused) 0)) Rest
     (cond (s .closed) Rest
     (cond (ltb from len) ALine
-    (cond final Close Rest)))))))
+    (cond final Close Rest))))))
 
 unfoldable pub what : State → ℕ → ℕ → Bool → ℕ → ℕ → Move
-what s len from final room at = cond (leb (at + mostText) room) (roomyMove s len from final) Rest
+what s len from final room at = cond (leb (at + mostWords) room) (roomyMove s len from final) Rest
 
 -- ---- what each move does
 -- the scripts, in the first places of the lists
@@ -74,34 +73,17 @@ lentIn w = lists (take (w .state .read .threads) (w .lens)) (take (w .state .rea
 -- a state with another line held, another reading, or other entries gathered
 abbrev pub stateWith : State → Held → Read → ℕ → State
 stateWith s held read gathered =
-    record { held = held; read = read; gathered = gathered; begun = s .begun; stood = s .stood; closed = s .closed; told = s .told }
+    record { held = held; read = read; gathered = gathered; stood = s .stood; closed = s .closed }
 
-abbrev pub flagged : State → Bool → Bool → Bool → Bool → State
-flagged s begun stood closed told =
-    record { held = s .held; read = s .read; gathered = s .gathered; begun = begun; stood = stood; closed = closed; told = told }
-
--- the state and the text change
-abbrev pub writes : World → State → ℕ → List ℕ → World
-writes w s most text =
-    record {
-      state = s;
-      standing = w .standing;
-      line = w .line;
-      lens = w .lens;
-      ops = w .ops;
-      vals = w .vals;
-      schedule = w .schedule;
-      from = w .from;
-      out = stored most (w .out) (w .at) text;
-      at = placeAfter most (w .out) (w .at) text;
-    }
+abbrev pub flagged : State → Bool → Bool → State
+flagged s stood closed = record { held = s .held; read = s .read; gathered = s .gathered; stood = stood; closed = closed }
 
 -- the lock is set up
 abbrev pub stands : World → World
 stands w =
     let r = w .state .read in
     record {
-      state = flagged (w .state) (w .state .begun) true (w .state .closed) (w .state .told);
+      state = flagged (w .state) true (w .state .closed);
       standing = firstOf (r .pred) (r .top) (r .first);
       line = w .line;
       lens = w .lens;
@@ -117,7 +99,7 @@ stands w =
 abbrev pub runs : World → World
 runs w =
     let entries = take (w .state .gathered) (w .schedule) in
-    let r = printedOf (lentIn w) (w .standing) entries (w .out) (w .at) in
+    let r = leftOf (lentIn w) (w .standing) entries (w .out) (w .at) in
     record {
       state = stateWith (w .state) (w .state .held) (w .state .read) 0;
       standing = r .standing;
@@ -186,26 +168,21 @@ ends w =
     let h = heldEnd (s .held) in
     let l = judge (view (lineEnd (w .line) (s .held)) (h .len)) in
     let r = cond (h .done) (onLine (s .read) l (w .lens)) (s .read) in
-    reads w (flagged (stateWith s unheld (atEnd r) (s .gathered)) (s .begun) (s .stood) true (s .told)) (h .done) l (lineEnd (w .line) (s .held)) (w .from)
+    reads w (flagged (stateWith s unheld (atEnd r) (s .gathered)) (s .stood) true) (h .done) l (lineEnd (w .line) (s .held)) (w .from)
 
 abbrev pub moved : List ℕ → World → Move → World
-moved chunk w Header = writes w (flagged (w .state) true (w .state .stood) (w .state .closed) (w .state .told)) 35 header
 moved chunk w Stand = stands w
 moved chunk w Piece = runs w
 moved chunk w Gather = gathers w
-moved chunk w Refusal =
-    writes w (flagged (w .state) (w .state .begun) (w .state .stood) (w .state .closed) true) 51 (refusal (w .state .read .refused) (w .state .read .line))
 moved chunk w ALine = takes chunk w
 moved chunk w Close = ends w
 moved chunk w Rest = w
 
 -- ---- a call: moves, until nothing comes next or so many are made
 abbrev pub rests : Move → Bool
-rests Header = false
 rests Stand = false
 rests Piece = false
 rests Gather = false
-rests Refusal = false
 rests ALine = false
 rests Close = false
 rests Rest = true
@@ -217,7 +194,29 @@ unfoldable pub feed : List ℕ → Bool → ℕ → World → World
 feed chunk final zero w = w
 feed chunk final (suc turns) w = cond (rests (nextOf chunk final w)) w (feed chunk final turns (moved chunk w (nextOf chunk final w)))
 
--- ---- the end
--- all that the input prints is out: its refusal is, or the end was taken with no refusal and nothing waits
+-- ---- why a call rests
+-- all rows of the input are out: nothing waits, and it was refused or its end was taken
 unfoldable pub over : State → Bool
-over s = s .told || (s .closed && (eqb (s .read .refused) 0 && (eqb (s .gathered) 0 && eqb (s .read .«run_left») 0)))
+over s = eqb (s .gathered) 0 && (eqb (s .read .«run_left») 0 && (not (eqb (s .read .refused) 0) || s .closed))
+
+-- then it was refused, with its number and its line, or it has ended
+abbrev pub endOf : State → Stop
+endOf s = cond (eqb (s .read .refused) 0) Over (Refused (s .read .refused) (s .read .line))
+
+-- where not all is out, another chunk is wanted, or there is no room for a piece in the list of `room` words
+unfoldable pub stopOf : State → ℕ → ℕ → Stop
+stopOf s room at = cond (over s) (endOf s) (cond (leb (at + mostWords) room) Wants Full)
+
+-- nothing comes any more
+abbrev pub isEnd : Stop → Bool
+isEnd Wants = false
+isEnd Full = false
+isEnd (Refused number line) = true
+isEnd Over = true
+
+-- the list was full: rows may still come of what was read
+abbrev pub isFull : Stop → Bool
+isFull Wants = false
+isFull Full = true
+isFull (Refused number line) = false
+isFull Over = false

@@ -1,2 +1,4 @@
 pub mod Feed
 pub mod Code
+pub mod RunAt
+pub mod Ahead

@@ -1,4 +1,7 @@
-// Scenario bytes in, trace bytes out: a chunk at a time, one move after another, with what is read and run so far handed from call to call.
+// Scenario bytes in, rows out: a chunk at a time, one move after another, with what is read and run so far handed from call to call.
+mod peek;
+mod run_lines;
+
 ghost use Prim.Native.Nat.{_^_, _-_};
 ghost use mathlib.Core.Path.{_≡_};
 ghost use mathlib.Core.Bool.{cond};
@@ -7,24 +10,20 @@ ghost use lib.ListN.{take, replicate};
 ghost use lib.Seq.{sets};
 ghost use Rattle.lines.specs.Judge.{judge};
 ghost use Rattle.lines.specs.Held.{view};
-ghost use Rattle.text.specs.Lines.{header, refusal};
-ghost use Rattle.text.specs.Put.{stored, placeAfter};
 ghost use Rattle.stages.specs.Kept.{onLine, lensAfter, opsAfter, valsAfter};
 ghost use Rattle.pieces.specs.Piece.{firstOf};
-ghost use Rattle.feed.specs.declared.Move.the-variants.{Refusal, Line as ALine, Close, Rest};
-ghost use Rattle.feed.specs.Feed.{fresh as freshState, over, ready, roomyMove, what, rests, stateWith, more, runs, takes, ends, feed};
-ghost use Rattle.feed.specs.Code.{worldOf, lockWorld, otherWorld, lineWorld, fedOf, ofLock, toStand, lockMoved, otherMoved, nowBegun, nowStood, nowTold, closedWith, gatheredIn};
+ghost use Rattle.feed.specs.declared.Move.the-variants.{Line as ALine, Close, Rest};
+ghost use Rattle.feed.specs.Feed.{fresh as freshState, over, endOf, stopOf, isEnd, isFull, ready, roomyMove, what, rests, stateWith, more, runs, takes, ends, feed};
+ghost use Rattle.feed.specs.Code.{worldOf, lockWorld, otherWorld, lineWorld, fedOf, ofLock, toStand, lockMoved, otherMoved, nowStood, closedWith, gatheredIn};
 use lines::bytes;
 use lines::bytes::Held;
+use pieces::ENTRIES;
 use pieces::Standing;
-use scenario::Stage;
 use stages::Read;
 use words::names::NONE;
 
-// The most entries of a piece, and the most bytes of its rows.
-const ENTRIES: u64 = 64;
-
-const PIECE: usize = 9472;
+// The words of the rows of a whole piece.
+const PIECE: usize = 384;
 
 // What is handed from call to call besides the lists and the standing.
 pub struct State {
@@ -34,29 +33,35 @@ pub struct State {
     pub read: Read,
     // How many entries wait in the schedule list.
     pub gathered: u64,
-    // The printed header is out.
-    pub begun: bool,
     // The standing is that of the lock that was set up.
     pub stood: bool,
     // The end of the input was taken.
     pub closed: bool,
-    // The refusal is out.
-    pub told: bool,
 }
 
 // What comes next.
 pub enum Move {
-    Header,
     Stand,
     Piece,
     Gather,
-    Refusal,
     Line,
     Close,
     Rest,
 }
 
-// What a call returns: the state, the standing, and the places in the chunk and in the text after what was taken and written.
+// Why a call came to rest.
+pub enum Stop {
+    // The chunk is all taken, and another is wanted.
+    Wants,
+    // There is no room for the rows of a whole piece.
+    Full,
+    // All rows are out, and the input was refused: the number, and the line.
+    Refused(u64, u64),
+    // All rows are out, and the input has ended.
+    Over,
+}
+
+// What a call returns: the state, the standing, and the places in the chunk and in the list for rows after what was taken and stored.
 pub struct Fed {
     pub state: State,
     pub standing: Standing,
@@ -68,7 +73,6 @@ pub struct Fed {
 struct Moved {
     state: State,
     from: usize,
-    at: usize,
 }
 
 // Before the first byte.
@@ -79,34 +83,49 @@ pub fn fresh() -> State
         held: bytes::begin(),
         read: stages::begin(),
         gathered: 0,
-        begun: false,
         stood: false,
         closed: false,
-        told: false,
     }
 }
 
-// All that the input prints is out.
-pub fn is_over(s: State) -> bool
-    ensures { λ r. ⌜ r ≡ over s ⌝ }
+// Why a call that left this state rests, where it left the place `at` in a list of `room` words.
+pub fn stopped(s: State, room: usize, at: usize) -> Stop
+    ensures { λ r. ⌜ r ≡ stopOf s room at ⌝ }
 {
-    let r = s.read;
-    if s.told {
-        return true;
+    if is_over(s) {
+        return end_of(s);
     }
-    if !s.closed {
-        return false;
+    if text::has_room(room, at, PIECE) {
+        return Stop::Wants;
     }
-    if r.refused != NONE {
-        return false;
-    }
-    if s.gathered != 0 {
-        return false;
-    }
-    r.run_left == 0
+    Stop::Full
 }
 
-// Moves are made until nothing comes next: the chunk's bytes from `from` on are taken, and what they print is stored from `at` on. `last` says
+// Nothing comes any more.
+pub fn ends(stop: Stop) -> bool
+    ensures { λ r. ⌜ r ≡ isEnd stop ⌝ }
+{
+    match stop {
+        Stop::Wants => false,
+        Stop::Full => false,
+        Stop::Refused(_, _) => true,
+        Stop::Over => true,
+    }
+}
+
+// The list was full: rows may still come of what was read.
+pub fn is_full(stop: Stop) -> bool
+    ensures { λ r. ⌜ r ≡ isFull stop ⌝ }
+{
+    match stop {
+        Stop::Wants => false,
+        Stop::Full => true,
+        Stop::Refused(_, _) => false,
+        Stop::Over => false,
+    }
+}
+
+// Moves are made until nothing comes next: the chunk's bytes from `from` on are taken, and the rows that come of them are stored from the word `at` on. `last` says
 // that no chunk comes after this one.
 pub fn feed(
     state: State,
@@ -119,16 +138,16 @@ pub fn feed(
     chunk: &[u8],
     from: usize,
     last: bool,
-    out: &mut [u8],
+    rows: &mut [u64],
     at: usize,
 ) -> Fed
-    ensures { λ r. let w = worldOf state standing (now (line .entry)) (now (lens .entry)) (now (ops .entry)) (now (vals .entry)) (now (schedule .entry)) from (now (out .entry)) at in ⌜ r ≡ fedOf (feed (now (chunk .entry)) last (2 ^ 64 - 1) w) ⌝ }
-    ensures { λ _. let w = worldOf state standing (now (line .entry)) (now (lens .entry)) (now (ops .entry)) (now (vals .entry)) (now (schedule .entry)) from (now (out .entry)) at in ⌜ now (line .exit) ≡ feed (now (chunk .entry)) last (2 ^ 64 - 1) w .line ⌝ }
-    ensures { λ _. let w = worldOf state standing (now (line .entry)) (now (lens .entry)) (now (ops .entry)) (now (vals .entry)) (now (schedule .entry)) from (now (out .entry)) at in ⌜ now (lens .exit) ≡ feed (now (chunk .entry)) last (2 ^ 64 - 1) w .lens ⌝ }
-    ensures { λ _. let w = worldOf state standing (now (line .entry)) (now (lens .entry)) (now (ops .entry)) (now (vals .entry)) (now (schedule .entry)) from (now (out .entry)) at in ⌜ now (ops .exit) ≡ feed (now (chunk .entry)) last (2 ^ 64 - 1) w .ops ⌝ }
-    ensures { λ _. let w = worldOf state standing (now (line .entry)) (now (lens .entry)) (now (ops .entry)) (now (vals .entry)) (now (schedule .entry)) from (now (out .entry)) at in ⌜ now (vals .exit) ≡ feed (now (chunk .entry)) last (2 ^ 64 - 1) w .vals ⌝ }
-    ensures { λ _. let w = worldOf state standing (now (line .entry)) (now (lens .entry)) (now (ops .entry)) (now (vals .entry)) (now (schedule .entry)) from (now (out .entry)) at in ⌜ now (schedule .exit) ≡ feed (now (chunk .entry)) last (2 ^ 64 - 1) w .schedule ⌝ }
-    ensures { λ _. let w = worldOf state standing (now (line .entry)) (now (lens .entry)) (now (ops .entry)) (now (vals .entry)) (now (schedule .entry)) from (now (out .entry)) at in ⌜ now (out .exit) ≡ feed (now (chunk .entry)) last (2 ^ 64 - 1) w .out ⌝ }
+    ensures { λ r. let w = worldOf state standing (now (line .entry)) (now (lens .entry)) (now (ops .entry)) (now (vals .entry)) (now (schedule .entry)) from (now (rows .entry)) at in ⌜ r ≡ fedOf (feed (now (chunk .entry)) last (2 ^ 64 - 1) w) ⌝ }
+    ensures { λ _. let w = worldOf state standing (now (line .entry)) (now (lens .entry)) (now (ops .entry)) (now (vals .entry)) (now (schedule .entry)) from (now (rows .entry)) at in ⌜ now (line .exit) ≡ feed (now (chunk .entry)) last (2 ^ 64 - 1) w .line ⌝ }
+    ensures { λ _. let w = worldOf state standing (now (line .entry)) (now (lens .entry)) (now (ops .entry)) (now (vals .entry)) (now (schedule .entry)) from (now (rows .entry)) at in ⌜ now (lens .exit) ≡ feed (now (chunk .entry)) last (2 ^ 64 - 1) w .lens ⌝ }
+    ensures { λ _. let w = worldOf state standing (now (line .entry)) (now (lens .entry)) (now (ops .entry)) (now (vals .entry)) (now (schedule .entry)) from (now (rows .entry)) at in ⌜ now (ops .exit) ≡ feed (now (chunk .entry)) last (2 ^ 64 - 1) w .ops ⌝ }
+    ensures { λ _. let w = worldOf state standing (now (line .entry)) (now (lens .entry)) (now (ops .entry)) (now (vals .entry)) (now (schedule .entry)) from (now (rows .entry)) at in ⌜ now (vals .exit) ≡ feed (now (chunk .entry)) last (2 ^ 64 - 1) w .vals ⌝ }
+    ensures { λ _. let w = worldOf state standing (now (line .entry)) (now (lens .entry)) (now (ops .entry)) (now (vals .entry)) (now (schedule .entry)) from (now (rows .entry)) at in ⌜ now (schedule .exit) ≡ feed (now (chunk .entry)) last (2 ^ 64 - 1) w .schedule ⌝ }
+    ensures { λ _. let w = worldOf state standing (now (line .entry)) (now (lens .entry)) (now (ops .entry)) (now (vals .entry)) (now (schedule .entry)) from (now (rows .entry)) at in ⌜ now (rows .exit) ≡ feed (now (chunk .entry)) last (2 ^ 64 - 1) w .out ⌝ }
 {
     let mut s = state;
     let mut p = standing;
@@ -136,18 +155,17 @@ pub fn feed(
     let mut k = at;
     let mut turns = u64::MAX;
     while 0 < turns {
-        turns -= 1;
-        let m = what(s, chunk.len(), i, last, out.len(), k);
+        let ran = run_lines::runs_first(s, line, schedule, chunk, i, rows.len(), k, turns);
+        let u = ran.state;
+        s = u;
+        i = ran.from;
+        turns = ran.turns - 1;
+        let m = what(s, chunk.len(), i, last, rows.len(), k);
         if rests(m) {
-            return Fed {
-                state: s,
-                standing: p,
-                from: i,
-                at: k,
-            };
+            return after(s, p, i, k);
         }
         if of_lock(m) {
-            let r = lock_move(m, s, p, lens, ops, vals, schedule, i, out, k);
+            let r = lock_move(m, s, p, lens, ops, vals, schedule, i, rows, k);
             let t = r.state;
             let q = r.standing;
             s = t;
@@ -155,18 +173,52 @@ pub fn feed(
             k = r.at;
             continue;
         }
-        let r = other_move(m, s, line, lens, ops, vals, schedule, chunk, i, out, k);
+        let r = other_move(m, s, line, lens, ops, vals, schedule, chunk, i);
         let t = r.state;
         s = t;
         i = r.from;
-        k = r.at;
     }
+    after(s, p, i, k)
+}
+
+fn after(state: State, standing: Standing, from: usize, at: usize) -> Fed
+    ensures { λ r. ⌜ r ≡ record { state = state; standing = standing; from = from; at = at } ⌝ }
+{
     Fed {
-        state: s,
-        standing: p,
-        from: i,
-        at: k,
+        state,
+        standing,
+        from,
+        at,
     }
+}
+
+// ---- why it rests
+
+// All rows of the input are out.
+fn is_over(s: State) -> bool
+    ensures { λ r. ⌜ r ≡ over s ⌝ }
+{
+    let r = s.read;
+    if s.gathered != 0 {
+        return false;
+    }
+    if r.run_left != 0 {
+        return false;
+    }
+    if r.refused != NONE {
+        return true;
+    }
+    s.closed
+}
+
+fn end_of(s: State) -> Stop
+    ensures { λ r. ⌜ r ≡ endOf s ⌝ }
+{
+    let r = s.read;
+    if r.refused != NONE {
+        return Stop::Refused(r.refused, r.line);
+    }
+    Stop::Over
 }
 
 // ---- what comes next
@@ -184,9 +236,6 @@ fn what(s: State, len: usize, from: usize, last: bool, room: usize, at: usize) -
 fn roomy_move(s: State, len: usize, from: usize, last: bool) -> Move
     ensures { λ m. ⌜ m ≡ roomyMove s len from last ⌝ }
 {
-    if !s.begun {
-        return Move::Header;
-    }
     if to_stand(s) {
         return Move::Stand;
     }
@@ -198,7 +247,7 @@ fn roomy_move(s: State, len: usize, from: usize, last: bool) -> Move
         return Move::Gather;
     }
     if r.refused != NONE {
-        return told_move(s.told);
+        return Move::Rest;
     }
     if s.closed {
         return Move::Rest;
@@ -206,7 +255,7 @@ fn roomy_move(s: State, len: usize, from: usize, last: bool) -> Move
     input_move(len, from, last)
 }
 
-// The lock is to be set up: the first run line was read.
+// The lock is to be set up: the first entries come.
 fn to_stand(s: State) -> bool
     ensures { λ b. ⌜ b ≡ toStand s ⌝ }
 {
@@ -214,14 +263,7 @@ fn to_stand(s: State) -> bool
         return false;
     }
     let r = s.read;
-    let stage = r.stage;
-    match stage {
-        Stage::Header => false,
-        Stage::Lock => false,
-        Stage::Pred => false,
-        Stage::Ops => false,
-        Stage::Runs => true,
-    }
+    0 < r.run_left
 }
 
 // All that was gathered is run.
@@ -244,15 +286,6 @@ fn is_ready(s: State) -> bool
     s.closed
 }
 
-fn told_move(told: bool) -> Move
-    ensures { λ m. ⌜ m ≡ cond told Rest Refusal ⌝ }
-{
-    if told {
-        return Move::Rest;
-    }
-    Move::Refusal
-}
-
 // Bytes are left, or no chunk comes after this one, or there is nothing to do.
 fn input_move(len: usize, from: usize, last: bool) -> Move
     ensures { λ m. ⌜ m ≡ cond (ltb from len) ALine (cond last Close Rest) ⌝ }
@@ -270,11 +303,9 @@ fn rests(m: Move) -> bool
     ensures { λ b. ⌜ b ≡ rests m ⌝ }
 {
     match m {
-        Move::Header => false,
         Move::Stand => false,
         Move::Piece => false,
         Move::Gather => false,
-        Move::Refusal => false,
         Move::Line => false,
         Move::Close => false,
         Move::Rest => true,
@@ -285,11 +316,9 @@ fn of_lock(m: Move) -> bool
     ensures { λ b. ⌜ b ≡ ofLock m ⌝ }
 {
     match m {
-        Move::Header => false,
         Move::Stand => true,
         Move::Piece => true,
         Move::Gather => false,
-        Move::Refusal => false,
         Move::Line => false,
         Move::Close => false,
         Move::Rest => false,
@@ -308,11 +337,11 @@ fn lock_move(
     vals: &[u64],
     schedule: &[u64],
     from: usize,
-    out: &mut [u8],
+    rows: &mut [u64],
     at: usize,
 ) -> Fed
-    ensures { λ r. let w = lockWorld s p (now (lens .entry)) (now (ops .entry)) (now (vals .entry)) (now (schedule .entry)) from (now (out .entry)) at in ⌜ r ≡ fedOf (lockMoved w m) ⌝ }
-    ensures { λ _. let w = lockWorld s p (now (lens .entry)) (now (ops .entry)) (now (vals .entry)) (now (schedule .entry)) from (now (out .entry)) at in ⌜ now (out .exit) ≡ lockMoved w m .out ⌝ }
+    ensures { λ r. let w = lockWorld s p (now (lens .entry)) (now (ops .entry)) (now (vals .entry)) (now (schedule .entry)) from (now (rows .entry)) at in ⌜ r ≡ fedOf (lockMoved w m) ⌝ }
+    ensures { λ _. let w = lockWorld s p (now (lens .entry)) (now (ops .entry)) (now (vals .entry)) (now (schedule .entry)) from (now (rows .entry)) at in ⌜ now (rows .exit) ≡ lockMoved w m .out ⌝ }
 {
     let kept = Fed {
         state: s,
@@ -321,11 +350,9 @@ fn lock_move(
         at,
     };
     match m {
-        Move::Header => kept,
         Move::Stand => stand(s, from, at),
-        Move::Piece => run_waiting(s, p, lens, ops, vals, schedule, from, out, at),
+        Move::Piece => run_waiting(s, p, lens, ops, vals, schedule, from, rows, at),
         Move::Gather => kept,
-        Move::Refusal => kept,
         Move::Line => kept,
         Move::Close => kept,
         Move::Rest => kept,
@@ -356,11 +383,11 @@ fn run_waiting(
     vals: &[u64],
     schedule: &[u64],
     from: usize,
-    out: &mut [u8],
+    rows: &mut [u64],
     at: usize,
 ) -> Fed
-    ensures { λ r. let w = lockWorld s p (now (lens .entry)) (now (ops .entry)) (now (vals .entry)) (now (schedule .entry)) from (now (out .entry)) at in ⌜ r ≡ fedOf (runs w) ⌝ }
-    ensures { λ _. let w = lockWorld s p (now (lens .entry)) (now (ops .entry)) (now (vals .entry)) (now (schedule .entry)) from (now (out .entry)) at in ⌜ now (out .exit) ≡ runs w .out ⌝ }
+    ensures { λ r. let w = lockWorld s p (now (lens .entry)) (now (ops .entry)) (now (vals .entry)) (now (schedule .entry)) from (now (rows .entry)) at in ⌜ r ≡ fedOf (runs w) ⌝ }
+    ensures { λ _. let w = lockWorld s p (now (lens .entry)) (now (ops .entry)) (now (vals .entry)) (now (schedule .entry)) from (now (rows .entry)) at in ⌜ now (rows .exit) ≡ runs w .out ⌝ }
 {
     let r = s.read;
     let done = pieces::run_piece(
@@ -369,7 +396,7 @@ fn run_waiting(
         upto(vals, r.count),
         p,
         upto(schedule, s.gathered),
-        out,
+        rows,
         at,
     );
     let mut t = s;
@@ -404,54 +431,20 @@ fn other_move(
     schedule: &mut [u64],
     chunk: &[u8],
     from: usize,
-    out: &mut [u8],
-    at: usize,
 ) -> Moved
-    ensures { λ r. let w = otherWorld s (now (line .entry)) (now (lens .entry)) (now (ops .entry)) (now (vals .entry)) (now (schedule .entry)) from (now (out .entry)) at in ⌜ otherWorld (r .state) (now (line .exit)) (now (lens .exit)) (now (ops .exit)) (now (vals .exit)) (now (schedule .exit)) (r .from) (now (out .exit)) (r .at) ≡ otherMoved (now (chunk .entry)) w m ⌝ }
+    ensures { λ r. let w = otherWorld s (now (line .entry)) (now (lens .entry)) (now (ops .entry)) (now (vals .entry)) (now (schedule .entry)) from in ⌜ otherWorld (r .state) (now (line .exit)) (now (lens .exit)) (now (ops .exit)) (now (vals .exit)) (now (schedule .exit)) (r .from) ≡ otherMoved (now (chunk .entry)) w m ⌝ }
 {
-    let kept = Moved { state: s, from, at };
+    let kept = Moved { state: s, from };
     match m {
-        Move::Header => head(s, from, out, at),
         Move::Stand => kept,
         Move::Piece => kept,
         Move::Gather => Moved {
             state: gather(s, schedule),
             from,
-            at,
         },
-        Move::Refusal => tell(s, from, out, at),
-        Move::Line => take_in(s, line, lens, ops, vals, chunk, from, at),
-        Move::Close => close(s, line, lens, ops, vals, from, at),
+        Move::Line => take_in(s, line, lens, ops, vals, chunk, from),
+        Move::Close => close(s, line, lens, ops, vals, from),
         Move::Rest => kept,
-    }
-}
-
-fn head(s: State, from: usize, out: &mut [u8], at: usize) -> Moved
-    ensures { λ r. ⌜ r ≡ record { state = nowBegun s; from = from; at = placeAfter 35 (now (out .entry)) at header } ⌝ }
-    ensures { λ _. ⌜ now (out .exit) ≡ stored 35 (now (out .entry)) at header ⌝ }
-{
-    let k = text::put_header(out, at);
-    let mut t = s;
-    t.begun = true;
-    Moved {
-        state: t,
-        from,
-        at: k,
-    }
-}
-
-fn tell(s: State, from: usize, out: &mut [u8], at: usize) -> Moved
-    ensures { λ r. ⌜ r ≡ record { state = nowTold s; from = from; at = placeAfter 51 (now (out .entry)) at (refusal (s .read .refused) (s .read .line)) } ⌝ }
-    ensures { λ _. ⌜ now (out .exit) ≡ stored 51 (now (out .entry)) at (refusal (s .read .refused) (s .read .line)) ⌝ }
-{
-    let r = s.read;
-    let k = text::put_refusal(out, at, r.refused, r.line);
-    let mut t = s;
-    t.told = true;
-    Moved {
-        state: t,
-        from,
-        at: k,
     }
 }
 
@@ -505,9 +498,8 @@ fn take_in(
     vals: &mut [u64],
     chunk: &[u8],
     from: usize,
-    at: usize,
 ) -> Moved
-    ensures { λ r. ⌜ lineWorld (r .state) (now (line .exit)) (now (lens .exit)) (now (ops .exit)) (now (vals .exit)) (r .from) (r .at) ≡ takes (now (chunk .entry)) (lineWorld s (now (line .entry)) (now (lens .entry)) (now (ops .entry)) (now (vals .entry)) from at) ⌝ }
+    ensures { λ r. ⌜ lineWorld (r .state) (now (line .exit)) (now (lens .exit)) (now (ops .exit)) (now (vals .exit)) (r .from) ≡ takes (now (chunk .entry)) (lineWorld s (now (line .entry)) (now (lens .entry)) (now (ops .entry)) (now (vals .entry)) from) ⌝ }
 {
     let held = s.held;
     let taken = bytes::take_line(line, held, chunk, from);
@@ -518,13 +510,11 @@ fn take_in(
         return Moved {
             state: with_read(s, bytes::begin(), q),
             from: taken.at,
-            at,
         };
     }
     Moved {
         state: with_read(s, h, r),
         from: taken.at,
-        at,
     }
 }
 
@@ -536,9 +526,8 @@ fn close(
     ops: &mut [u64],
     vals: &mut [u64],
     from: usize,
-    at: usize,
 ) -> Moved
-    ensures { λ r. ⌜ lineWorld (r .state) (now (line .exit)) (now (lens .exit)) (now (ops .exit)) (now (vals .exit)) (r .from) (r .at) ≡ ends (lineWorld s (now (line .entry)) (now (lens .entry)) (now (ops .entry)) (now (vals .entry)) from at) ⌝ }
+    ensures { λ r. ⌜ lineWorld (r .state) (now (line .exit)) (now (lens .exit)) (now (ops .exit)) (now (vals .exit)) (r .from) ≡ ends (lineWorld s (now (line .entry)) (now (lens .entry)) (now (ops .entry)) (now (vals .entry)) from) ⌝ }
 {
     let held = s.held;
     let h = bytes::finish(line, held);
@@ -548,13 +537,11 @@ fn close(
         return Moved {
             state: closed_with(s, q),
             from,
-            at,
         };
     }
     Moved {
         state: closed_with(s, r),
         from,
-        at,
     }
 }
 

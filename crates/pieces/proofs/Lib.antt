@@ -1,3 +1,2 @@
-pub mod PutRows
 pub mod Piece
 pub mod Stands

@@ -1,35 +1,28 @@
--- A piece as the code runs it, with records by value: at most 64 entries, run and their rows stored as text; or nothing at all, where there
--- is no room for so many rows or the run is refused.
-use Prim.Native.Nat.{ℕ, _+_, _*_, _%_}
+-- A piece as the code runs it, with records by value: at most 64 entries, run and their rows stored; or nothing at all, where there is no room
+-- for so many rows or the run is refused.
+use Prim.Native.Nat.{ℕ, _+_, _*_}
 use mathlib.Core.Bool.{Bool, cond}
 use mathlib.Core.List.{List}
 use lib.Dec.{eqb, leb}
-use lib.ListN.{length, getD, take}
+use lib.ListN.{length, take}
 use lib.Seq.{sets}
 use Rattle.cell.specs.declared.pred.Pred.{Pred}
-use Rattle.machine.specs.Names.{mostThreads}
+use Rattle.machine.specs.Names.{mostThreads, rowWords}
 use Rattle.machine.specs.Words.{unused}
 use Rattle.machine.specs.Lists.{Lent, scriptsOf}
 use Rattle.machine.specs.Setup.{fresh}
-use Rattle.machine.specs.Run.{Ran, run}
+use Rattle.machine.specs.Run.{Ran, run, wordsOf}
 use Rattle.machine.specs.declared.Rec.{Rec}
-use Rattle.machine.specs.declared.Row.{Row}
 use Rattle.lock.specs.ByValue.{putBack, runRefusalOf}
-use Rattle.scenario.specs.Names.{countedTo}
-use Rattle.scenario.specs.Printed.{rowsText}
 use Rattle.pieces.specs.declared.Standing.{Standing}
-use Rattle.pieces.specs.declared.Printed.{Printed}
+use Rattle.pieces.specs.declared.Left.{Left}
 
 abbrev pub mostEntries : ℕ
 mostEntries = 64
 
--- the most bytes of a row
-abbrev pub rowBytes : ℕ
-rowBytes = 148
-
 -- before the first piece
 abbrev pub firstOf : Pred → ℕ → ℕ → Standing
-firstOf q m v = record { lock = unused q m v; recs = fresh mostThreads; row = 0 }
+firstOf q m v = record { lock = unused q m v; recs = fresh mostThreads }
 
 -- ---- what is run
 -- the entries of the piece; those past the most are not run
@@ -47,47 +40,31 @@ refusalOf s p = runRefusalOf s (length (s .lens)) (p .lock) (recsOf s p)
 abbrev pub pieceRan : Lent → Standing → List ℕ → Ran
 pieceRan s p entries = run (scriptsOf s) (p .lock) (recsOf s p) (piece entries)
 
-abbrev pub textOf : Lent → Standing → List ℕ → List ℕ
-textOf s p entries = rowsText (p .row) (pieceRan s p entries .rows)
+-- the rows, as words
+abbrev pub wordsIn : Lent → Standing → List ℕ → List ℕ
+wordsIn s p entries = wordsOf (pieceRan s p entries .rows)
 
--- records past the scripts stay, and rows are counted modulo 2 ^ 64
+-- records past the scripts stay
 abbrev pub standingOf : Lent → Standing → List ℕ → Standing
 standingOf s p entries =
-    record {
-      lock = pieceRan s p entries .lock;
-      recs = putBack (length (s .lens)) (p .recs) (pieceRan s p entries .recs);
-      row = (p .row + length (piece entries)) % countedTo;
-    }
+    record { lock = pieceRan s p entries .lock; recs = putBack (length (s .lens)) (p .recs) (pieceRan s p entries .recs) }
 
 -- ---- where there is room
-unfoldable pub ranPrinted : Lent → Standing → List ℕ → ℕ → Printed
-ranPrinted s p entries at =
-    cond (eqb (refusalOf s p) 0) (record { standing = standingOf s p entries; at = at + length (textOf s p entries) }) (record { standing = p; at = at })
+unfoldable pub ranLeft : Lent → Standing → List ℕ → ℕ → Left
+ranLeft s p entries at =
+    cond (eqb (refusalOf s p) 0) (record { standing = standingOf s p entries; at = at + length (wordsIn s p entries) }) (record { standing = p; at = at })
 
 unfoldable pub ranStored : Lent → Standing → List ℕ → List ℕ → ℕ → List ℕ
-ranStored s p entries out at = cond (eqb (refusalOf s p) 0) (sets out at (textOf s p entries)) out
+ranStored s p entries out at = cond (eqb (refusalOf s p) 0) (sets out at (wordsIn s p entries)) out
 
 -- ---- as it is called
 -- so many rows have room from `at` on
 abbrev pub hasRoom : List ℕ → List ℕ → ℕ → Bool
-hasRoom entries out at = leb (at + rowBytes * length (piece entries)) (length out)
+hasRoom entries out at = leb (at + rowWords * length (piece entries)) (length out)
 
 -- the answer, and the list afterwards
-unfoldable pub printedOf : Lent → Standing → List ℕ → List ℕ → ℕ → Printed
-printedOf s p entries out at = cond (hasRoom entries out at) (ranPrinted s p entries at) (record { standing = p; at = at })
+unfoldable pub leftOf : Lent → Standing → List ℕ → List ℕ → ℕ → Left
+leftOf s p entries out at = cond (hasRoom entries out at) (ranLeft s p entries at) (record { standing = p; at = at })
 
 unfoldable pub storedOf : Lent → Standing → List ℕ → List ℕ → ℕ → List ℕ
 storedOf s p entries out at = cond (hasRoom entries out at) (ranStored s p entries out at) out
-
--- ---- a trace list
--- the row whose words start at p
-abbrev pub rowAt : List ℕ → ℕ → Row
-rowAt trace p =
-    record {
-      thread = getD trace p 0;
-      access = getD trace (p + 1) 0;
-      answer = getD trace (p + 2) 0;
-      got = getD trace (p + 3) 0;
-      exc = getD trace (p + 4) 0;
-      rc = getD trace (p + 5) 0;
-    }

@@ -1,73 +1,66 @@
--- What pieces leave and print, in the words of `scenario`: what one piece does, and the relation between a standing and the entries so far. The
--- first standing has it and every piece keeps it; from there no piece is refused, and a piece prints the rows that come next.
-use Prim.Native.Nat.{ℕ, _+_, _*_, _%_, _<_, _≤_}
+-- What pieces leave and store, in the words of `scenario`: what one piece does, and the relation between a standing and the entries so far. The
+-- first standing has it and every piece keeps it; from there no piece is refused, and a piece stores the rows that come next.
+use Prim.Native.Nat.{ℕ, _+_, _*_, _<_, _≤_}
 use mathlib.Core.Path.{_≡_}
 use mathlib.Core.Logic.{_≢_, _⊎_}
 use mathlib.Core.Bool.{cond}
 use mathlib.Core.List.{List, [], _++_}
-use lib.ListN.{length, take, drop}
+use lib.ListN.{length}
 use lib.Seq.{sets}
 use Rattle.cell.specs.declared.pred.Pred.{Pred}
-use Rattle.machine.specs.Names.{mostThreads}
+use Rattle.machine.specs.Names.{mostThreads, rowWords}
 use Rattle.machine.specs.Words.{unused}
 use Rattle.machine.specs.Lists.{Lent}
+use Rattle.machine.specs.Run.{wordsOf}
 use Rattle.machine.specs.Setup.{fresh, setupRefusal}
-use Rattle.scenario.specs.Names.{countedTo}
 use Rattle.scenario.specs.Scenario.{Scenario}
 use Rattle.scenario.specs.Refused.{asked}
-use Rattle.scenario.specs.Pieces.{Standing as Listed, atFirst, pieceText, afterPiece}
-use Rattle.pieces.specs.Piece.{rowBytes, firstOf, piece, recsOf, refusalOf, hasRoom, printedOf, storedOf}
+use Rattle.scenario.specs.Pieces.{Standing as Listed, atFirst, pieceRows, afterPiece}
+use Rattle.pieces.specs.Piece.{firstOf, piece, recsOf, refusalOf, hasRoom, leftOf, storedOf}
 use Rattle.pieces.specs.declared.Standing.{Standing}
-use Rattle.pieces.specs.declared.Printed.{Printed}
+use Rattle.pieces.specs.declared.Left.{Left}
 
 -- the standing with a list of records, one for each script
 abbrev pub listed : Lent → Standing → Listed
-listed s p = record { lock = p .lock; recs = recsOf s p; row = p .row }
+listed s p = record { lock = p .lock; recs = recsOf s p }
 
--- rows are counted modulo 2 ^ 64; `CountedRows` of `scenario` says that this is enough
-abbrev pub counted : Listed → Listed
-counted p = record { lock = p .lock; recs = p .recs; row = p .row % countedTo }
+-- the rows of entries from there, as words
+abbrev pub pieceWords : Lent → Listed → List ℕ → List ℕ
+pieceWords s p entries = wordsOf (pieceRows s p entries)
 
 -- ---- one piece
--- where the entries of the piece have room and the run is not refused, their text is stored, and the standing is the one after them
+-- where the entries of the piece have room and the run is not refused, their rows are stored, and the standing is the one after them
 abbrev pub PieceIsRun : Type 0
 PieceIsRun =
-    (s : Lent) (p : Standing) (entries out : List ℕ) (at : ℕ) (r : Printed) (out′ : List ℕ)
-    → r ≡ printedOf s p entries out at → out′ ≡ storedOf s p entries out at
-    → length (p .recs) ≡ mostThreads → at + rowBytes * length (piece entries) ≤ length out → refusalOf s p ≡ 0
-    → let text = pieceText s (listed s p) (piece entries) in
-    (out′ ≡ sets out at text)
-    × (r .at ≡ at + length text)
-    × (listed s (r .standing) ≡ counted (afterPiece s (listed s p) (piece entries)))
+    (s : Lent) (p : Standing) (entries out : List ℕ) (at : ℕ) (r : Left) (out′ : List ℕ)
+    → r ≡ leftOf s p entries out at → out′ ≡ storedOf s p entries out at
+    → length (p .recs) ≡ mostThreads → at + rowWords * length (piece entries) ≤ length out → refusalOf s p ≡ 0
+    → let words = pieceWords s (listed s p) (piece entries) in
+    (out′ ≡ sets out at words)
+    × (r .at ≡ at + length words)
+    × (r .at ≡ at + rowWords * length (piece entries))
+    × (listed s (r .standing) ≡ afterPiece s (listed s p) (piece entries))
     × (length (r .standing .recs) ≡ mostThreads)
-
--- in such a piece the text lies behind what stands before `at`, inside the list, and the bytes behind it stay
-abbrev pub TextBehind : Type 0
-TextBehind =
-    (s : Lent) (p : Standing) (entries out : List ℕ) (at : ℕ) (r : Printed) (out′ : List ℕ)
-    → r ≡ printedOf s p entries out at → out′ ≡ storedOf s p entries out at
-    → at + rowBytes * length (piece entries) ≤ length out → refusalOf s p ≡ 0
-    → (r .at ≤ length out) × (out′ ≡ take at out ++ (pieceText s (listed s p) (piece entries) ++ drop (r .at) out))
 
 -- with no room, and where the run is refused, all comes back as it was
 abbrev pub AllStays : Type 0
 AllStays =
-    (s : Lent) (p : Standing) (entries out : List ℕ) (at : ℕ) (r : Printed) (out′ : List ℕ)
-    → r ≡ printedOf s p entries out at → out′ ≡ storedOf s p entries out at
-    → ((length out < at + rowBytes * length (piece entries)) ⊎ (refusalOf s p ≢ 0))
+    (s : Lent) (p : Standing) (entries out : List ℕ) (at : ℕ) (r : Left) (out′ : List ℕ)
+    → r ≡ leftOf s p entries out at → out′ ≡ storedOf s p entries out at
+    → ((length out < at + rowWords * length (piece entries)) ⊎ (refusalOf s p ≢ 0))
     → (r .standing ≡ p) × (r .at ≡ at) × (out′ ≡ out)
 
 -- ---- piece after piece
 -- as setup makes it, with the predicate q, the top m and the first value v
 abbrev pub begun : Lent → Pred → ℕ → ℕ → Listed
-begun s q m v = record { lock = unused q m v; recs = fresh (length (s .lens)); row = 0 }
+begun s q m v = record { lock = unused q m v; recs = fresh (length (s .lens)) }
 
 -- setup takes the scripts, and p is what the entries `before` leave of it
 pub record Stands (s : Lent) (q : Pred) (m v : ℕ) (before : List ℕ) (p : Standing) : Type 0 where
   pub accepted : setupRefusal q m v s (length (s .lens)) ≡ 0
   -- the array has sixteen records
   pub wide : length (p .recs) ≡ mostThreads
-  pub is : listed s p ≡ counted (afterPiece s (begun s q m v) before)
+  pub is : listed s p ≡ afterPiece s (begun s q m v) before
 
 abbrev pub FirstStands : Type 0
 FirstStands =
@@ -86,14 +79,14 @@ runEntries entries out at = cond (hasRoom entries out at) (piece entries) []
 abbrev pub PieceStands : Type 0
 PieceStands =
     (s : Lent) (q : Pred) (m v : ℕ) (before : List ℕ) (p : Standing) → Stands s q m v before p
-    → (entries out : List ℕ) (at : ℕ) (r : Printed) → r ≡ printedOf s p entries out at
+    → (entries out : List ℕ) (at : ℕ) (r : Left) → r ≡ leftOf s p entries out at
     → Stands s q m v (before ++ runEntries entries out at) (r .standing)
 
 abbrev pub NeverRefused : Type 0
 NeverRefused = (s : Lent) (q : Pred) (m v : ℕ) (before : List ℕ) (p : Standing) → Stands s q m v before p → refusalOf s p ≡ 0
 
--- what all entries print is what those so far print, then the text of the others from here
-abbrev pub PrintsNext : Type 0
-PrintsNext =
+-- the rows of all entries are those so far, then those of the others from here
+abbrev pub RowsNext : Type 0
+RowsNext =
     (s : Lent) (q : Pred) (m v : ℕ) (before : List ℕ) (p : Standing) → Stands s q m v before p → (entries : List ℕ)
-    → pieceText s (begun s q m v) (before ++ entries) ≡ pieceText s (begun s q m v) before ++ pieceText s (listed s p) entries
+    → pieceWords s (begun s q m v) (before ++ entries) ≡ pieceWords s (begun s q m v) before ++ pieceWords s (listed s p) entries

@@ -1,34 +1,30 @@
-// A piece of a schedule: its entries are run and their rows stored as text, with the standing that is handed from piece to piece.
+// A piece of a schedule: its entries are run and their rows stored, with the standing that is handed from piece to piece.
 ghost use Prim.Native.Nat.{_+_, _*_, _≤_};
 ghost use mathlib.Core.Path.{_≡_};
 ghost use lib.ListN.{length};
 ghost use Rattle.machine.specs.Lists.{lists};
-ghost use Rattle.pieces.specs.Piece.{piece, firstOf, printedOf, storedOf, ranPrinted, ranStored};
+ghost use Rattle.pieces.specs.Piece.{piece, firstOf, leftOf, storedOf, ranLeft, ranStored};
 use atomic::Count;
 use cell::pred::Pred;
 use lock::run;
 use machine::Lock;
 use machine::Place;
 use machine::Rec;
-use text::ROW;
-
-mod rows;
 
 // The most entries of a piece.
-const ENTRIES: u64 = 64;
+pub const ENTRIES: u64 = 64;
 
-// The words of their rows.
-const WORDS: usize = 384;
+// The words of a row.
+const ROW: usize = 6;
 
-// The lock and the records as the pieces so far have left them, and the number of the next row, modulo 2^64.
+// The lock and the records as the pieces so far have left them.
 pub struct Standing {
     pub lock: Lock,
     pub recs: [Rec; 16],
-    pub row: u64,
 }
 
-// The standing after a piece, and the place after its text.
-pub struct Printed {
+// The standing after a piece, and the place after its rows.
+pub struct Left {
     pub standing: Standing,
     pub at: usize,
 }
@@ -42,49 +38,48 @@ pub fn at_first(pred: Pred, top: u64, first: u64) -> Standing
     Standing {
         lock,
         recs: [rec; 16],
-        row: 0,
     }
 }
 
-// The first 64 entries are run, a record for each script, and their rows stored from `at` on. Where `out` has no room for so many rows, or
-// the run is refused, all stays as it is.
+// The first entries, as many as a piece has, are run, a record for each script, and their rows stored from the word `at` on. Where there is no
+// room for so many rows, or the run is refused, all stays as it is.
 pub fn run_piece(
     lens: &[u64],
     ops: &[u64],
     vals: &[u64],
     s: Standing,
     entries: &[u64],
-    out: &mut [u8],
+    rows: &mut [u64],
     at: usize,
-) -> Printed
-    ensures { λ r. ⌜ r ≡ printedOf (lists (now (lens .entry)) (now (ops .entry)) (now (vals .entry))) s (now (entries .entry)) (now (out .entry)) at ⌝ }
-    ensures { λ _. ⌜ now (out .exit) ≡ storedOf (lists (now (lens .entry)) (now (ops .entry)) (now (vals .entry))) s (now (entries .entry)) (now (out .entry)) at ⌝ }
+) -> Left
+    ensures { λ r. ⌜ r ≡ leftOf (lists (now (lens .entry)) (now (ops .entry)) (now (vals .entry))) s (now (entries .entry)) (now (rows .entry)) at ⌝ }
+    ensures { λ _. ⌜ now (rows .exit) ≡ storedOf (lists (now (lens .entry)) (now (ops .entry)) (now (vals .entry))) s (now (entries .entry)) (now (rows .entry)) at ⌝ }
 {
     let n = words::smaller(ENTRIES, entries.len() as u64) as usize;
-    if text::has_room(out.len(), at, ROW * n) {
-        run_there(lens, ops, vals, s, entries, out, at)
+    if text::has_room(rows.len(), at, ROW * n) {
+        run_there(lens, ops, vals, s, entries, rows, at)
     } else {
-        Printed { standing: s, at }
+        Left { standing: s, at }
     }
 }
 
-// Where there is room. A run that is refused has no rows, and leaves the lock and the records.
+// Where there is room. The rows are lent on from there, so that none is copied. A run that is refused has none, and leaves the lock and the
+// records.
 fn run_there(
     lens: &[u64],
     ops: &[u64],
     vals: &[u64],
     s: Standing,
     entries: &[u64],
-    out: &mut [u8],
+    rows: &mut [u64],
     at: usize,
-) -> Printed
-    requires { ⌜ at + 148 * length (piece (now entries)) ≤ length (now out) ⌝ }
-    ensures { λ r. ⌜ r ≡ ranPrinted (lists (now (lens .entry)) (now (ops .entry)) (now (vals .entry))) s (now (entries .entry)) at ⌝ }
-    ensures { λ _. ⌜ now (out .exit) ≡ ranStored (lists (now (lens .entry)) (now (ops .entry)) (now (vals .entry))) s (now (entries .entry)) (now (out .entry)) at ⌝ }
+) -> Left
+    requires { ⌜ at + 6 * length (piece (now entries)) ≤ length (now rows) ⌝ }
+    ensures { λ r. ⌜ r ≡ ranLeft (lists (now (lens .entry)) (now (ops .entry)) (now (vals .entry))) s (now (entries .entry)) at ⌝ }
+    ensures { λ _. ⌜ now (rows .exit) ≡ ranStored (lists (now (lens .entry)) (now (ops .entry)) (now (vals .entry))) s (now (entries .entry)) (now (rows .entry)) at ⌝ }
 {
     let lock = s.lock;
     let recs = s.recs;
-    let mut trace = [0; WORDS];
     let ran = run::run(
         lens,
         ops,
@@ -94,15 +89,11 @@ fn run_there(
         lens.len() as u64,
         entries,
         ENTRIES,
-        &mut trace,
+        &mut rows[at..],
     );
-    let end = rows::put_rows(&trace, ran.n as usize, s.row, out, at);
+    let end = at + ROW * ran.n as usize;
     let lock = ran.lock;
     let recs = ran.recs;
-    let standing = Standing {
-        lock,
-        recs,
-        row: std::num::wrapping_add_u64(s.row, ran.n),
-    };
-    Printed { standing, at: end }
+    let standing = Standing { lock, recs };
+    Left { standing, at: end }
 }

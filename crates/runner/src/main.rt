@@ -1,25 +1,34 @@
 // A scenario on standard input, its trace on standard output.
-use cell::pred::Pred;
-use chunks::Input;
-use feed::Fed;
-use feed::State;
+ghost use Prim.Native.Nat.{_+_, _*_, _/_, _≤_};
+ghost use mathlib.Core.Path.{_≡_};
+ghost use mathlib.Core.Bool.{cond};
+ghost use lib.Dec.{leb};
+ghost use lib.ListN.{length};
+ghost use lib.Seq.{sets};
+ghost use Rattle.prints.specs.Prints.{moreText};
+use feed::Stop;
+use intake::Came;
+use intake::Intake;
 use libc::STDERR_FILENO;
-use libc::STDIN_FILENO;
 use libc::STDOUT_FILENO;
-use pieces::Standing;
-
-// So many bytes of text are written at once; behind them the list has room for a piece.
-const FULL: usize = 50000;
+use text::ROW_WORDS;
 
 // What is handed from turn to turn, besides the lists.
 struct Run {
-    state: State,
-    standing: Standing,
-    input: Input,
+    intake: Intake,
+    // The number of the next row, modulo 2^64.
+    row: u64,
     // How many bytes of text wait to be written.
     at: usize,
     // All is written, or no more can be.
     ended: bool,
+}
+
+// How many bytes of text wait, once there is room for more.
+struct Room {
+    at: usize,
+    // Some could not be written.
+    lost: bool,
 }
 
 fn main() {
@@ -28,6 +37,7 @@ fn main() {
     let mut ops = [0; 1024];
     let mut vals = [0; 1024];
     let mut schedule = [0; 64];
+    let mut rows = [0; 1536];
     let mut chunk = io::large_buffer();
     let mut out = io::large_buffer();
     turns(
@@ -36,21 +46,33 @@ fn main() {
         &mut ops,
         &mut vals,
         &mut schedule,
+        &mut rows,
         &mut chunk,
         &mut out,
     );
 }
 
+// The text of as many rows as the list holds, and of a refusal, has room in the other; and the lists have the places that the reader needs.
 fn turns(
     line: &mut [u8; 80],
     lens: &mut [u64],
     ops: &mut [u64],
     vals: &mut [u64],
     schedule: &mut [u64],
+    rows: &mut [u64],
     chunk: &mut [u8],
     out: &mut [u8],
-) {
-    let mut run = begin();
+)
+    requires { ⌜ 148 * (length (now rows) / 6) + 51 ≤ length (now out) ⌝ }
+    requires { ⌜ (16 ≤ length (now lens)) × (1024 ≤ length (now ops)) × (1024 ≤ length (now vals)) ⌝ }
+    requires { ⌜ (64 ≤ length (now schedule)) × (384 ≤ length (now rows)) ⌝ }
+{
+    let mut run = Run {
+        intake: intake::begin(),
+        row: 0,
+        at: text::put_header(out, 0),
+        ended: false,
+    };
     // A proved loop has to end, and nothing says that the input does: it counts its turns down from a number that no run uses up.
     let mut left = u64::MAX;
     while 0 < left {
@@ -58,21 +80,11 @@ fn turns(
             return;
         }
         left -= 1;
-        run = turn(run, line, lens, ops, vals, schedule, chunk, out);
+        run = turn(run, line, lens, ops, vals, schedule, rows, chunk, out);
     }
 }
 
-fn begin() -> Run {
-    Run {
-        state: feed::fresh(),
-        standing: pieces::at_first(Pred::Any, 1, 0),
-        input: chunks::unread(),
-        at: 0,
-        ended: false,
-    }
-}
-
-// Reads a chunk where the last one is all taken, has it fed, and writes the text where that is much or all.
+// More rows, and their text behind what waits.
 fn turn(
     run: Run,
     line: &mut [u8; 80],
@@ -80,70 +92,64 @@ fn turn(
     ops: &mut [u64],
     vals: &mut [u64],
     schedule: &mut [u64],
+    rows: &mut [u64],
     chunk: &mut [u8],
     out: &mut [u8],
-) -> Run {
-    let input = next_chunk(run.input, chunk);
-    let fed = take_chunk(run, input, line, lens, ops, vals, schedule, chunk, out);
-    written(input, fed, out)
+) -> Run
+    requires { ⌜ 148 * (length (now rows) / 6) + 51 ≤ length (now out) ⌝ }
+{
+    let intake = run.intake;
+    let input = intake::read_chunk(intake, chunk);
+    let came = intake::take_more(intake, input, line, lens, ops, vals, schedule, chunk, rows);
+    let n = came.at / ROW_WORDS;
+    let room = make_room(n, out, run.at);
+    let stop = came.stop;
+    let end = put_more(run.row, rows, n, stop, out, room.at);
+    let row = std::num::wrapping_add_u64(run.row, n as u64);
+    after(row, came, room.lost, out, end)
 }
 
-fn take_chunk(
-    run: Run,
-    input: Input,
-    line: &mut [u8; 80],
-    lens: &mut [u64],
-    ops: &mut [u64],
-    vals: &mut [u64],
-    schedule: &mut [u64],
-    chunk: &[u8],
-    out: &mut [u8],
-) -> Fed {
-    let state = run.state;
-    let standing = run.standing;
-    feed::feed(
-        state,
-        standing,
-        line,
-        lens,
-        ops,
-        vals,
-        schedule,
-        chunks::front(chunk, input.len),
-        input.from,
-        input.last,
-        out,
-        run.at,
-    )
-}
-
-// A read that fails is not the end of the input: what was cut off there might be another scenario. So the turn after it is the last, and the
-// trace stops.
-fn next_chunk(input: Input, chunk: &mut [u8]) -> Input {
-    if chunks::stays(input) {
-        return input;
+// What waits is written where n rows and a refusal have no room behind it.
+fn make_room(n: usize, out: &[u8], at: usize) -> Room
+    requires { ⌜ 148 * n + 51 ≤ length (now out) ⌝ }
+    ensures { λ r. ⌜ r .at ≡ cond (leb (at + (148 * n + 51)) (length (now (out .entry)))) at 0 ⌝ }
+    ensures { λ r. ⌜ r .at + (148 * n + 51) ≤ length (now (out .entry)) ⌝ }
+{
+    if prints::has_room(out.len(), at, n) {
+        return Room { at, lost: false };
     }
-    let got = libc::read(STDIN_FILENO, chunk);
-    if got < 0 {
+    let done = io::write_all(STDOUT_FILENO, chunks::front(out, at));
+    Room { at: 0, lost: !done }
+}
+
+// No row is lost, since there is room.
+fn put_more(row: u64, rows: &[u64], n: usize, stop: Stop, out: &mut [u8], at: usize) -> usize
+    requires { ⌜ 6 * n ≤ length (now rows) ⌝ }
+    requires { ⌜ at + (148 * n + 51) ≤ length (now out) ⌝ }
+    ensures { λ r. ⌜ r ≡ at + length (moreText row (now (rows .entry)) n stop) ⌝ }
+    ensures { λ _. ⌜ now (out .exit) ≡ sets (now (out .entry)) at (moreText row (now (rows .entry)) n stop) ⌝ }
+{
+    prints::put_more(row, rows, n, stop, out, at)
+}
+
+// Before more is read, which may take long, and at the end, what waits is written.
+fn after(row: u64, came: Came, lost: bool, out: &[u8], at: usize) -> Run {
+    let intake = came.intake;
+    let input = intake.input;
+    let stop = came.stop;
+    let ends = input.failed || feed::ends(stop);
+    let wait = feed::is_full(stop) && !ends;
+    let done = !lost && (wait || io::write_all(STDOUT_FILENO, chunks::front(out, at)));
+    if input.failed {
         io::write_all(
             STDERR_FILENO,
             b"runner: the input could not be read to its end, so the trace is not whole\n",
         );
     }
-    chunks::after_read(io::count(got, chunk), got < 0)
-}
-
-fn written(input: Input, fed: Fed, out: &[u8]) -> Run {
-    let state = fed.state;
-    let standing = fed.standing;
-    let over = input.failed || feed::is_over(state);
-    let flush = over || FULL < fed.at;
-    let done = !flush || io::write_all(STDOUT_FILENO, chunks::front(out, fed.at));
     Run {
-        state,
-        standing,
-        input: chunks::taken_to(input, fed.from),
-        at: if flush { 0 } else { fed.at },
-        ended: over || !done,
+        intake,
+        row,
+        at: if wait { at } else { 0 },
+        ended: ends || !done,
     }
 }

@@ -1,11 +1,11 @@
--- A file read by bytes prints what it prints by lines. Assumes nothing.
+-- A file read by bytes comes to the reading that it comes to by lines. Assumes nothing.
 use mathlib.Core.Path.{sym, ap, _∙_}
 use mathlib.Core.List.{_++_}
 use Rattle.lines.specs.Bytes.{Reader, finish}
 use Rattle.lines.specs.Laws.{LongAlike}
 use Rattle.lines.proofs.Judged.{long-is-broken}
 use Rattle.lines.proofs.Laws.{by-bytes, any-cut}
-use Rattle.scenario.specs.Printed.{Reading, start, next, ended, output, printed}
+use Rattle.scenario.specs.Printed.{Reading, start, next, ended, readingOf}
 use Rattle.scenario.specs.ByBytes.{unread, ReadByBytes, CutAnywhere}
 
 -- two lines that are too long are both broken
@@ -14,9 +14,9 @@ unfolding next
 long-alike r l m h g = rw (long-is-broken l h, long-is-broken m g)
 
 pub read-by-bytes : ReadByBytes
-unfolding printed
-read-by-bytes file = ap (λ (r : Reading). output (ended r)) (sym (by-bytes Reading next long-alike start file))
+unfolding readingOf
+read-by-bytes file = ap ended (sym (by-bytes Reading next long-alike start file))
 
 pub cut-anywhere : CutAnywhere
 cut-anywhere a b =
-    read-by-bytes (a ++ b) ∙ ap (λ (r : Reader Reading). output (ended (finish next r))) (any-cut Reading next unread a b)
+    read-by-bytes (a ++ b) ∙ ap (λ (r : Reader Reading). ended (finish next r)) (any-cut Reading next unread a b)

@@ -31,9 +31,9 @@ use Rattle.scenario.specs.declared.Stage.the-variants.{Header as AtHeade
 use Rattle.scenario.specs.Names.{wrongLine}
 use Rattle.scenario.specs.Scenario.{Scenario, predOf, withPred, withOp, withRun, taken}
 use Rattle.scenario.specs.Refused.{stageNo, at, broken, misplaced, asked, setupNumber, refusalOf}
-use Rattle.scenario.specs.Printed.{Reading, reading, afterLine, next, ended, start, rowsOf, rowsText, refusalText, output, printed}
+use Rattle.scenario.specs.Printed.{Reading, reading, afterLine, next, ended, start, rowsOf, rowsText, refusalText, output, readingOf, rowsIn, printed}
 use Rattle.scenario.specs.Setup.{Accepted}
-use Rattle.scenario.specs.Named.{scriptsFrom, entriesOf, no-line, op-line, run-line, NamedBy, takenOf, AsNamed, TakenBefore, rowsNamed, PrintsNamed, PrintsNoRow}
+use Rattle.scenario.specs.Named.{scriptsFrom, entriesOf, no-line, op-line, run-line, NamedBy, takenOf, AsNamed, TakenBefore, rowsNamed, RowsAsNamed, NoRow, PrintsNamed, PrintsNoRow}
 use Rattle.scenario.proofs.PredLine.{of-pred}
 use Rattle.scenario.proofs.Scripts.{scripts-run, lent-op, lent-none, entries-append}
 use Rattle.scenario.proofs.Setup.{passes, neither, keeps-accepted}
@@ -296,20 +296,28 @@ end-leaves r = go (eqb (r .refused) 0) (ltb (stageNo (r .scenario .stage)) 3)
     go true false = refl
     go false b = refl
 
-prints : (file : List ℕ) (rows : List Row) → let r = across next start (lines file) in
-    rowsOf (r .scenario) ≡ rows → printed file ≡ header ++ (rowsText 0 rows ++ refusalText (ended r))
-unfolding printed output
-prints file rows e =
-    let r = across next start (lines file) in
-    ap (λ (all : List Row). header ++ (rowsText 0 all ++ refusalText (ended r))) (ap rowsOf (end-leaves r) ∙ e)
+pub rows-as-named : RowsAsNamed
+unfolding readingOf
+rows-as-named file named = ap rowsOf (end-leaves (across next start (lines file))) ∙ rows-named named
 
-pub prints-named : PrintsNamed
-prints-named file named = prints file (rowsNamed named) (rows-named named)
-
-pub prints-no-row : PrintsNoRow
-unfolding run rowsText
-prints-no-row file early =
+pub no-row : NoRow
+unfolding readingOf run
+no-row file early =
     let r = across next start (lines file) in
     let s = r .scenario in
     let none = none-at (map judge (take (takenOf r) (lines file))) s (s .stage) early (all-read file .0) in
-    prints file [] (ap (λ (es : List ℕ). run (scriptsOf (s .lent)) (unused (s .pred) (s .top) (s .first)) (fresh (s .threads)) es .rows) none)
+    ap rowsOf (end-leaves r)
+    ∙ ap (λ (es : List ℕ). run (scriptsOf (s .lent)) (unused (s .pred) (s .top) (s .first)) (fresh (s .threads)) es .rows) none
+
+prints : (file : List ℕ) (rows : List Row) → rowsIn file ≡ rows
+    → printed file ≡ header ++ (rowsText 0 rows ++ refusalText (ended (across next start (lines file))))
+unfolding printed output readingOf
+prints file rows e =
+    ap (λ (all : List Row). header ++ (rowsText 0 all ++ refusalText (ended (across next start (lines file))))) e
+
+pub prints-named : PrintsNamed
+prints-named file named = prints file (rowsNamed named) (rows-as-named file named)
+
+pub prints-no-row : PrintsNoRow
+unfolding rowsText
+prints-no-row file early = prints file [] (no-row file early)

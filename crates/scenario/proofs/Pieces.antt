@@ -1,20 +1,18 @@
--- Pieces print what the whole schedule prints. Assumes nothing.
+-- Pieces have the rows of the whole schedule. Assumes nothing.
 use Prim.Native.Nat.{ℕ, suc, _+_, _%_}
 use mathlib.Core.Path.{_≡_, refl, sym, ap, _∙_}
 use mathlib.Core.List.{List, [], _∷_, _++_, append-assoc}
 use native.Mathlib.Omega.{arith}
 use lib.ListN.{length}
 use Rattle.machine.specs.Lists.{scriptsOf}
-use Rattle.machine.specs.Run.{run}
 use Rattle.machine.specs.declared.Row.{Row}
 use Rattle.machine.proofs.RunLaws.{cutting}
-use Rattle.machine.proofs.RunRule.{rows-length}
 use Rattle.text.specs.Lines.{rowText}
 use Rattle.scenario.specs.Names.{countedTo}
 use Rattle.scenario.specs.Printed.{rowsText}
-use Rattle.scenario.specs.Pieces.{ranFrom, TwoPieces, CountedRows, OnePiece}
+use Rattle.scenario.specs.Pieces.{TwoPieces, CountedRows, OnePiece}
 
-rows-append : (n : ℕ) (a b : List Row) → rowsText n (a ++ b) ≡ rowsText n a ++ rowsText (n + length a) b
+pub rows-append : (n : ℕ) (a b : List Row) → rowsText n (a ++ b) ≡ rowsText n a ++ rowsText (n + length a) b
 unfolding rowsText
 rows-append n [] b = let e : n + 0 ≡ n = omega arith in rw e
 rows-append n (r ∷ a) b =
@@ -23,10 +21,8 @@ rows-append n (r ∷ a) b =
 
 pub two-pieces : TwoPieces
 two-pieces l p a b =
-    let w = ranFrom l p a .rows in
-    ap (rowsText (p .row)) (cutting (scriptsOf l) (p .lock) (p .recs) a b .2)
-    ∙ rows-append (p .row) w (run (scriptsOf l) (ranFrom l p a .lock) (ranFrom l p a .recs) b .rows)
-    ∙ rw (rows-length (scriptsOf l) (p .lock) (p .recs) a)
+    let (lock, recs, rows) = cutting (scriptsOf l) (p .lock) (p .recs) a b in
+    (rows, λ j. record { lock = lock j; recs = recs j })
 
 -- two numbers with the same rest number rows alike
 alike : (m n : ℕ) (rows : List Row) → m % countedTo ≡ n % countedTo → rowsText m rows ≡ rowsText n rows

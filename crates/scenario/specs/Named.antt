@@ -23,7 +23,7 @@ use Rattle.scenario.specs.declared.Stage.{Stage}
 use Rattle.scenario.specs.declared.Stage.the-variants.{Header as AtHeader, Lock as AtLock, Pred as AtPred, Ops as AtOps, Runs as AtRuns}
 use Rattle.scenario.specs.Scenario.{Scenario}
 use Rattle.scenario.specs.Refused.{stageNo}
-use Rattle.scenario.specs.Printed.{Reading, start, next, ended, rowsText, refusalText, printed}
+use Rattle.scenario.specs.Printed.{Reading, start, next, ended, rowsText, refusalText, rowsIn, printed}
 
 -- ---- what lines name
 -- the script of thread t: its op lines, in order
@@ -100,12 +100,19 @@ rowsNamed {ls} {s} named =
     run (scriptsOf (lentFor (scriptsFrom 0 (s .threads) (named .more)))) (unused (s .pred) (s .top) (s .first)) (fresh (s .threads))
     (entriesOf (named .more)) .rows
 
+-- these are the file's rows
+abbrev pub RowsAsNamed : Type 0
+RowsAsNamed = (file : List ℕ) → (named : NamedBy (linesTaken file) (whole next start file .scenario)) → rowsIn file ≡ rowsNamed named
+
+-- where the pred line was not taken it has none
+abbrev pub NoRow : Type 0
+NoRow = (file : List ℕ) → stageNo (whole next start file .scenario .stage) ≤ 2 → rowsIn file ≡ []
+
 -- and so these are the rows that are printed
 abbrev pub PrintsNamed : Type 0
 PrintsNamed =
     (file : List ℕ) → let r = whole next start file in (named : NamedBy (linesTaken file) (r .scenario))
     → printed file ≡ header ++ (rowsText 0 (rowsNamed named) ++ refusalText (ended r))
 
--- where the pred line was not taken there is no row
 abbrev pub PrintsNoRow : Type 0
 PrintsNoRow = (file : List ℕ) → let r = whole next start file in stageNo (r .scenario .stage) ≤ 2 → printed file ≡ header ++ refusalText (ended r)

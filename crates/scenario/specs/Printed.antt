@@ -60,6 +60,15 @@ refusalText r = cond (eqb (r .refused) 0) [] (refusal (r .refused) (r .line % co
 unfoldable pub output : Reading → List ℕ
 output r = header ++ (rowsText 0 (rowsOf (r .scenario)) ++ refusalText r)
 
--- a file's bytes, and the bytes that it prints
+-- ---- a file
+-- its bytes, and the reading that they come to
+unfoldable pub readingOf : List ℕ → Reading
+readingOf file = ended (whole next start file)
+
+-- its rows
+abbrev pub rowsIn : List ℕ → List Row
+rowsIn file = rowsOf (readingOf file .scenario)
+
+-- and the bytes that it prints
 unfoldable pub printed : List ℕ → List ℕ
-printed file = output (ended (whole next start file))
+printed file = output (readingOf file)

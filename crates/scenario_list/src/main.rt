@@ -3,9 +3,13 @@
 // oracle/scenarios.rs makes the list and says how it is written: each line is a scenario file with what the second program prints for it.
 // A line that cannot be read as such counts as different, so that nothing of the list is passed over, and the number of rows shows where
 // some of it is missing.
+ghost use Prim.Native.Nat.{_<_, _≤_};
+ghost use lib.ListN.{length};
 use cell::pred::Pred;
+use feed::Fed;
 use libc::STDIN_FILENO;
 use tally::Tally;
+use text::ROW_WORDS;
 
 // How the next byte of a line is read.
 const PLAIN: u64 = 0;
@@ -232,35 +236,143 @@ fn replay(line: Line, file: &[u8], text: &[u8]) -> bool {
     if line.broken || !line.barred {
         return false;
     }
-    prints(
+    is_printed(
         chunks::front(file, line.in_file),
         chunks::front(text, line.in_text),
     )
 }
 
-fn prints(file: &[u8], text: &[u8]) -> bool {
+// In whatever chunks it comes: as one, byte by byte, and in sevens.
+fn is_printed(file: &[u8], text: &[u8]) -> bool {
+    is_printed_cut(file, text, file.len())
+        && is_printed_cut(file, text, 0)
+        && is_printed_cut(file, text, 6)
+}
+
+fn is_printed_cut(file: &[u8], text: &[u8], more: usize) -> bool {
     let mut line = [0; 80];
     let mut lens = [0; 16];
     let mut ops = [0; 1024];
     let mut vals = [0; 1024];
     let mut schedule = [0; 64];
+    let mut rows = [0; 6144];
     let mut out = io::large_buffer();
-    let fed = feed::feed(
-        feed::fresh(),
-        pieces::at_first(Pred::Any, 1, 0),
+    let fed = feed_cut(
+        file,
+        more,
         &mut line,
         &mut lens,
         &mut ops,
         &mut vals,
         &mut schedule,
-        file,
-        0,
-        true,
-        &mut out,
-        0,
+        &mut rows,
     );
-    let s = fed.state;
-    feed::is_over(s) && is_same(&out, fed.at, text)
+    let state = fed.state;
+    let stop = feed::stopped(state, rows.len(), fed.at);
+    let at = text::put_header(&mut out, 0);
+    let end = prints::put_more(0, &rows, fed.at / ROW_WORDS, stop, &mut out, at);
+    feed::ends(stop) && is_same(&out, end, text)
+}
+
+// Chunks of one byte more than `more`, then the end. They are handed over after a refusal too.
+fn feed_cut(
+    file: &[u8],
+    more: usize,
+    line: &mut [u8; 80],
+    lens: &mut [u64],
+    ops: &mut [u64],
+    vals: &mut [u64],
+    schedule: &mut [u64],
+    rows: &mut [u64],
+) -> Fed {
+    let fed = hand_all(file, more, line, lens, ops, vals, schedule, rows);
+    hand(fed, line, lens, ops, vals, schedule, b"", true, rows)
+}
+
+fn hand_all(
+    file: &[u8],
+    more: usize,
+    line: &mut [u8; 80],
+    lens: &mut [u64],
+    ops: &mut [u64],
+    vals: &mut [u64],
+    schedule: &mut [u64],
+    rows: &mut [u64],
+) -> Fed {
+    let mut fed = Fed {
+        state: feed::fresh(),
+        standing: pieces::at_first(Pred::Any, 1, 0),
+        from: 0,
+        at: 0,
+    };
+    let mut i = 0;
+    while i < file.len() {
+        let end = end_of(i, more, file.len());
+        let chunk = part(file, i, end);
+        fed = hand_both(fed, line, lens, ops, vals, schedule, chunk, rows);
+        i = end;
+    }
+    fed
+}
+
+// A chunk, and one of no bytes behind it.
+fn hand_both(
+    fed: Fed,
+    line: &mut [u8; 80],
+    lens: &mut [u64],
+    ops: &mut [u64],
+    vals: &mut [u64],
+    schedule: &mut [u64],
+    chunk: &[u8],
+    rows: &mut [u64],
+) -> Fed {
+    let then = hand(fed, line, lens, ops, vals, schedule, chunk, false, rows);
+    hand(then, line, lens, ops, vals, schedule, b"", false, rows)
+}
+
+// Where the chunk from i on ends.
+fn end_of(i: usize, more: usize, n: usize) -> usize
+    requires { ⌜ i < n ⌝ }
+    ensures { λ r. ⌜ i < r ⌝ }
+    ensures { λ r. ⌜ r ≤ n ⌝ }
+{
+    if more < n - i - 1 { i + more + 1 } else { n }
+}
+
+fn part(list: &[u8], from: usize, end: usize) -> &[u8]
+    requires { ⌜ from ≤ end ⌝ }
+    requires { ⌜ end ≤ length (now list) ⌝ }
+{
+    &list[from..end]
+}
+
+fn hand(
+    fed: Fed,
+    line: &mut [u8; 80],
+    lens: &mut [u64],
+    ops: &mut [u64],
+    vals: &mut [u64],
+    schedule: &mut [u64],
+    chunk: &[u8],
+    last: bool,
+    rows: &mut [u64],
+) -> Fed {
+    let state = fed.state;
+    let standing = fed.standing;
+    feed::feed(
+        state,
+        standing,
+        line,
+        lens,
+        ops,
+        vals,
+        schedule,
+        chunk,
+        0,
+        last,
+        rows,
+        fed.at,
+    )
 }
 
 // The first n bytes of a list are these.

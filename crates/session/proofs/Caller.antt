@@ -8,40 +8,42 @@ use native.Mathlib.Omega.{arith}
 use borrow.Author.Tests.{leb-true, leb-false}
 use lib.Dec.{leb}
 use lib.ListN.{length, length-append}
-use Rattle.scenario.specs.Printed.{printed}
-use Rattle.feed.specs.Feed.{mostText, over}
+use Rattle.feed.specs.Feed.{mostWords, over}
+use Rattle.session.specs.Session.{fileWords}
 use Rattle.session.specs.Chunks.{Fed, MayFollow}
+use Rattle.session.specs.Piped.{ComesTo}
 use Rattle.session.specs.Caller.{Caller, isLast, called, next, turn, turns, Short, Ended, CallerEnds}
-use Rattle.session.proofs.Chunks.{chunk-taken, chunks-print, chunks-on, few-calls}
+use Rattle.session.proofs.Chunks.{chunk-taken, chunks-on, few-calls}
+use Rattle.session.proofs.Piped.{by-chunks}
 
 follows : (later : List (List ℕ)) → MayFollow (isLast later) later
 follows [] e = refl
 follows (chunk ∷ later) e = absurd (false≢true e)
 
-module _ (file : List (List ℕ)) (out : List ℕ) (wide : mostText ≤ length out) where
+module _ (file : List (List ℕ)) (out : List ℕ) (wide : mostWords ≤ length out) where
   -- what was handed over in so many calls after the first is the beginning of the file
   pub record Doing (n : ℕ) (c : Caller) : Type 0 where
     pub chunks : List (List ℕ)
-    pub fed : Fed chunks (c .chunk) (isLast (c .later)) (suc n) (c .text) (c .left)
+    pub fed : Fed chunks (c .chunk) (isLast (c .later)) (suc n) (c .words) (c .left)
     pub is : chunks ++ c .later ≡ file
     pub short : Short (c .later)
 
   module _ (n : ℕ) (c : Caller) (d : Doing n c) where
-    -- no caller makes more calls than there are chunks and bytes to print
-    few : n < length file + length (printed (flatten file))
+    -- no caller makes more calls than there are chunks and words
+    few : n < length file + length (fileWords (flatten file))
     few =
         let last = isLast (c .later) in
-        let (rest, begins) = chunks-on (d .chunks) (c .chunk) last (suc n) (c .text) (c .left) (d .fed) (c .later) (follows (c .later)) in
-        let size : length (printed (flatten file)) ≡ length (c .text) + length rest =
-        ap (λ (x : List (List ℕ)). length (printed (flatten x))) (sym (d .is)) ∙ ap length begins ∙ length-append (c .text) rest in
+        let (rest, begins) = chunks-on (d .chunks) (c .chunk) last (suc n) (c .words) (c .left) (d .fed) (c .later) (follows (c .later)) in
+        let size : length (fileWords (flatten file)) ≡ length (c .words) + length rest =
+        ap (λ (x : List (List ℕ)). length (fileWords (flatten x))) (sym (d .is)) ∙ ap length begins ∙ length-append (c .words) rest in
         let places : length file ≡ length (d .chunks) + length (c .later) = ap length (sym (d .is)) ∙ length-append (d .chunks) (c .later) in
-        omega (arith, few-calls (d .chunks) (c .chunk) last (suc n) (c .text) (c .left) (d .fed), size, places)
+        omega (arith, few-calls (d .chunks) (c .chunk) last (suc n) (c .words) (c .left) (d .fed), size, places)
 
     ended : over (c .left .state) ≡ true → Ended file c
     ended all = (
       all,
-      chunks-print (d .chunks) (c .chunk) (isLast (c .later)) (suc n) (c .text) (c .left) (d .fed) all (c .later) (follows (c .later))
-          ∙ ap (λ (x : List (List ℕ)). printed (flatten x)) (d .is),
+      subst (λ (x : List (List ℕ)). ComesTo (flatten x) (c .words) (c .left)) (d .is)
+          (by-chunks (d .chunks) (c .chunk) (isLast (c .later)) (suc n) (c .words) (c .left) (d .fed) all (c .later) (follows (c .later))),
     )
 
     to-next : (later : List (List ℕ)) → c .later ≡ later → length (c .chunk) ≤ c .left .from → isLast (c .later) ≡ false
@@ -54,7 +56,7 @@ module _ (file : List (List ℕ)) (out : List ℕ) (wide : mostText ≤ length o
           chunks = d .chunks ++ (chunk ∷ []);
           fed =
               Fed.another
-              (subst (λ (b : Bool). Fed (d .chunks) (c .chunk) b (suc n) (c .text) (c .left)) more (d .fed))
+              (subst (λ (b : Bool). Fed (d .chunks) (c .chunk) b (suc n) (c .words) (c .left)) more (d .fed))
               taken chunk (isLast later) out 0 _ (short .0) (omega arith) refl;
           is = append-assoc (d .chunks) (chunk ∷ []) later ∙ ap (λ (x : List (List ℕ)). d .chunks ++ x) (sym e) ∙ d .is;
           short = short .1;
@@ -62,22 +64,22 @@ module _ (file : List (List ℕ)) (out : List ℕ) (wide : mostText ≤ length o
 
     -- a turn is one more call, until all is out
     turn-does : over (c .left .state) ≡ false → Doing (suc n) (turn out c)
-    turn-does unover = rw unover (by-room (leb (c .left .at + mostText) (length (c .left .out))) refl)
+    turn-does unover = rw unover (by-room (leb (c .left .at + mostWords) (length (c .left .out))) refl)
       where
         by-taken : (over (c .left .state) ≡ true) ⊎ ((length (c .chunk) ≤ c .left .from) × (isLast (c .later) ≡ false))
             → Doing (suc n) (next out c (c .later))
         by-taken (inl all) = absurd (true≢false (sym all ∙ unover))
         by-taken (inr (taken, more)) = to-next (c .later) refl taken more
 
-        by-room : (b : Bool) → leb (c .left .at + mostText) (length (c .left .out)) ≡ b
-            → Doing (suc n) (cond b (next out c (c .later)) (called out (c .chunk) (c .later) (c .text) (c .left) (c .left .from)))
+        by-room : (b : Bool) → leb (c .left .at + mostWords) (length (c .left .out)) ≡ b
+            → Doing (suc n) (cond b (next out c (c .later)) (called out (c .chunk) (c .later) (c .words) (c .left) (c .left .from)))
         by-room true e =
             by-taken
-            (chunk-taken (d .chunks) (c .chunk) (isLast (c .later)) (suc n) (c .text) (c .left) (d .fed)
-            (leb-true (c .left .at + mostText) (length (c .left .out)) e))
+            (chunk-taken (d .chunks) (c .chunk) (isLast (c .later)) (suc n) (c .words) (c .left) (d .fed)
+            (leb-true (c .left .at + mostWords) (length (c .left .out)) e))
         by-room false e = record {
           chunks = d .chunks;
-          fed = Fed.again (d .fed) (leb-false (c .left .at + mostText) (length (c .left .out)) e) out 0 _ (omega arith) refl;
+          fed = Fed.again (d .fed) (leb-false (c .left .at + mostWords) (length (c .left .out)) e) out 0 _ (omega arith) refl;
           is = d .is;
           short = d .short;
         }
@@ -88,7 +90,7 @@ module _ (file : List (List ℕ)) (out : List ℕ) (wide : mostText ≤ length o
   turns-stay zero c e = e
   turns-stay (suc more) c e = turns-stay more (turn out c) (rw (e .0) e)
 
-  turns-end : (more n : ℕ) (c : Caller) → Doing n c → length file + length (printed (flatten file)) ≤ n + more → Ended file (turns more out c)
+  turns-end : (more n : ℕ) (c : Caller) → Doing n c → length file + length (fileWords (flatten file)) ≤ n + more → Ended file (turns more out c)
   unfolding turns
   turns-end zero n c d enough = absurd (omega (arith, few n c d))
   turns-end (suc more) n c d enough =

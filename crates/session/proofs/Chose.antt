@@ -2,48 +2,42 @@
 use Prim.Native.Nat.{ℕ, _+_, _<_, _≤_}
 use mathlib.Core.Bool.{Bool, true, false, _||_, _&&_, not, cond, true≢false, false≢true}
 use mathlib.Core.Path.{_≡_, refl, sym, _∙_}
-use mathlib.Core.Logic.{_≢_}
 use mathlib.Core.List.{List}
 use native.Mathlib.Omega.{arith}
-use borrow.Author.Tests.{ltb-true, ltb-false, leb-true, leb-false, eqb-true, eqb-false, eq-eqb}
+use borrow.Author.Tests.{ltb-true, ltb-false, leb-true, leb-false, eqb-true, eq-eqb}
 use lib.Dec.{eqb, ltb, leb}
 use lib.ListN.{length}
 use Rattle.scenario.specs.Refused.{stageNo, at as isAt}
 use Rattle.scenario.specs.declared.Stage.{Stage}
 use Rattle.scenario.specs.declared.Stage.the-variants.{Header as AtHeader, Lock as AtLock, Pred as AtPred, Ops as AtOps, Runs as AtRuns}
 use Rattle.pieces.specs.Piece.{mostEntries}
-use Rattle.feed.specs.Feed.{World, mostText, ready, roomyMove, what, nextOf, over}
+use Rattle.feed.specs.Feed.{World, mostWords, ready, roomyMove, what, nextOf, over}
 use Rattle.feed.specs.declared.State.{State}
 use Rattle.feed.specs.declared.Move.{Move}
-use Rattle.feed.specs.declared.Move.the-variants.{Header, Stand, Piece, Gather, Refusal, Line as ALine, Close, Rest}
+use Rattle.feed.specs.declared.Move.the-variants.{Stand, Piece, Gather, Line as ALine, Close, Rest}
 
 -- there is room for what a move may write
 abbrev pub Wide : World → Type 0
-Wide w = w .at + mostText ≤ length (w .out)
+Wide w = w .at + mostWords ≤ length (w .out)
 
 -- a line, or the end of the input, may be taken
 pub record Open (s : State) : Type 0 where
-  pub begun : s .begun ≡ true
   pub left : s .read .«run_left» ≡ 0
   pub refused : s .read .refused ≡ 0
   pub closed : s .closed ≡ false
 
 pub data Chose (chunk : List ℕ) (final : Bool) (w : World) : Move → Type 0 where
-  header : Wide w → w .state .begun ≡ false → Chose chunk final w Header
-  stand : w .state .begun ≡ true → w .state .stood ≡ false → w .state .read .stage ≡ AtRuns → Chose chunk final w Stand
-  piece : Wide w → w .state .begun ≡ true → 0 < w .state .gathered → Chose chunk final w Piece
-  gather : w .state .begun ≡ true → 0 < w .state .read .«run_left» → w .state .gathered < mostEntries → (w .state .read .stage ≡ AtRuns → w .state .stood ≡ true)
-      → Chose chunk final w Gather
-  refusal : Wide w → w .state .begun ≡ true → w .state .gathered ≡ 0 → w .state .read .«run_left» ≡ 0 → w .state .read .refused ≢ 0 → w .state .told ≡ false
-      → Chose chunk final w Refusal
+  stand : w .state .stood ≡ false → 0 < w .state .read .«run_left» → Chose chunk final w Stand
+  piece : Wide w → 0 < w .state .gathered → Chose chunk final w Piece
+  gather : 0 < w .state .read .«run_left» → w .state .gathered < mostEntries → w .state .stood ≡ true → Chose chunk final w Gather
   line : Open (w .state) → w .from < length chunk → Chose chunk final w ALine
   close : Open (w .state) → length chunk ≤ w .from → final ≡ true → Chose chunk final w Close
-  unroomy : length (w .out) < w .at + mostText → Chose chunk final w Rest
+  unroomy : length (w .out) < w .at + mostWords → Chose chunk final w Rest
   done : over (w .state) ≡ true → Chose chunk final w Rest
   later : length chunk ≤ w .from → final ≡ false → Chose chunk final w Rest
 
 -- ---- tests
-last-stage : (p : Stage) → stageNo p ≡ 4 → p ≡ AtRuns
+pub last-stage : (p : Stage) → stageNo p ≡ 4 → p ≡ AtRuns
 last-stage AtHeader e = absurd (omega arith)
 last-stage AtLock e = absurd (omega arith)
 last-stage AtPred e = absurd (omega arith)
@@ -87,9 +81,9 @@ module _ (chunk : List ℕ) (final : Bool) (w : World) (wide : Wide w) where
       (eq-eqb (s .read .«run_left») 0 left) why in
       omega (arith, ltb-false 0 (s .gathered) b)
 
-  all-out : s .closed ≡ true → s .read .refused ≡ 0 → s .gathered ≡ 0 → s .read .«run_left» ≡ 0 → over s ≡ true
+  all-out : (not (eqb (s .read .refused) 0) || s .closed) ≡ true → s .gathered ≡ 0 → s .read .«run_left» ≡ 0 → over s ≡ true
   unfolding over
-  all-out c r g l = or-right (s .told) _ (rw (c, r, g, l) refl)
+  all-out why g l = rw (g, l) why
 
   -- the tests one by one, each with what those before it said
   at-end : (b : Bool) → final ≡ b → Open s → length chunk ≤ w .from → Chose chunk final w (cond b Close Rest)
@@ -104,59 +98,50 @@ module _ (chunk : List ℕ) (final : Bool) (w : World) (wide : Wide w) where
   next-line = cond (s .closed) Rest (cond (ltb (w .from) (length chunk)) ALine (cond final Close Rest))
 
   abbrev next-refusal : Move
-  next-refusal = cond (not (eqb (s .read .refused) 0)) (cond (s .told) Rest Refusal) next-line
+  next-refusal = cond (not (eqb (s .read .refused) 0)) Rest next-line
 
   abbrev next-entries : Move
   next-entries = cond (ready s) Piece (cond (ltb 0 (s .read .«run_left»)) Gather next-refusal)
 
-  module _ (begun : s .begun ≡ true) where
-    at-closed : (b : Bool) → s .closed ≡ b → ready s ≡ false → s .read .«run_left» ≡ 0 → s .read .refused ≡ 0
-        → Chose chunk final w (cond b Rest (cond (ltb (w .from) (length chunk)) ALine (cond final Close Rest)))
-    at-closed true e unready left fine =
-        Chose.done (all-out e fine (nothing-waits unready left (or-right (not (eqb (s .read .refused) 0)) (s .closed) e)) left)
-    at-closed false e unready left fine = at-line (ltb (w .from) (length chunk)) refl (record { begun = begun; left = left; refused = fine; closed = e })
+  at-closed : (b : Bool) → s .closed ≡ b → ready s ≡ false → s .read .«run_left» ≡ 0 → s .read .refused ≡ 0
+      → Chose chunk final w (cond b Rest (cond (ltb (w .from) (length chunk)) ALine (cond final Close Rest)))
+  at-closed true e unready left fine =
+      let why = or-right (not (eqb (s .read .refused) 0)) (s .closed) e in
+      Chose.done (all-out why (nothing-waits unready left why) left)
+  at-closed false e unready left fine = at-line (ltb (w .from) (length chunk)) refl (record { left = left; refused = fine; closed = e })
 
-    at-told : (b : Bool) → s .told ≡ b → s .gathered ≡ 0 → s .read .«run_left» ≡ 0 → s .read .refused ≢ 0 → Chose chunk final w (cond b Rest Refusal)
-    unfolding over
-    at-told true e none left refused = Chose.done (rw e refl)
-    at-told false e none left refused = Chose.refusal wide begun none left refused e
+  at-refused : (b : Bool) → eqb (s .read .refused) 0 ≡ b → ready s ≡ false → s .read .«run_left» ≡ 0
+      → Chose chunk final w (cond (not b) Rest next-line)
+  at-refused true e unready left = at-closed (s .closed) refl unready left (eqb-true (s .read .refused) 0 e)
+  at-refused false e unready left = let why : (not (eqb (s .read .refused) 0) || s .closed) ≡ true = rw e refl in Chose.done (all-out why (nothing-waits unready left why) left)
 
-    at-refused : (b : Bool) → eqb (s .read .refused) 0 ≡ b → ready s ≡ false → s .read .«run_left» ≡ 0
-        → Chose chunk final w (cond (not b) (cond (s .told) Rest Refusal) next-line)
-    at-refused true e unready left = at-closed (s .closed) refl unready left (eqb-true (s .read .refused) 0 e)
-    at-refused false e unready left = at-told (s .told) refl (nothing-waits unready left (rw e refl)) left (eqb-false (s .read .refused) 0 e)
+  at-gather : (b : Bool) → ltb 0 (s .read .«run_left») ≡ b → ready s ≡ false → (ltb 0 (s .read .«run_left») ≡ true → s .stood ≡ true)
+      → Chose chunk final w (cond b Gather next-refusal)
+  at-gather true e unready there =
+      Chose.gather (ltb-true 0 (s .read .«run_left») e) (leb-false mostEntries (s .gathered) (or-left (leb mostEntries (s .gathered)) _ unready)) (there e)
+  at-gather false e unready there =
+      at-refused (eqb (s .read .refused) 0) refl unready (omega (arith, ltb-false 0 (s .read .«run_left») e))
 
-    at-gather : (b : Bool) → ltb 0 (s .read .«run_left») ≡ b → ready s ≡ false → (s .read .stage ≡ AtRuns → s .stood ≡ true)
-        → Chose chunk final w (cond b Gather next-refusal)
-    at-gather true e unready there =
-        Chose.gather begun (ltb-true 0 (s .read .«run_left») e) (leb-false mostEntries (s .gathered) (or-left (leb mostEntries (s .gathered)) _ unready)) there
-    at-gather false e unready there =
-        at-refused (eqb (s .read .refused) 0) refl unready (omega (arith, ltb-false 0 (s .read .«run_left») e))
+  at-piece : (b : Bool) → ready s ≡ b → (ltb 0 (s .read .«run_left») ≡ true → s .stood ≡ true)
+      → Chose chunk final w (cond b Piece (cond (ltb 0 (s .read .«run_left»)) Gather next-refusal))
+  at-piece true e there = Chose.piece wide (some (leb mostEntries (s .gathered)) (ltb 0 (s .gathered)) (s .gathered) _ refl refl e)
+  at-piece false e there = at-gather (ltb 0 (s .read .«run_left»)) refl e there
 
-    at-piece : (b : Bool) → ready s ≡ b → (s .read .stage ≡ AtRuns → s .stood ≡ true)
-        → Chose chunk final w (cond b Piece (cond (ltb 0 (s .read .«run_left»)) Gather next-refusal))
-    at-piece true e there = Chose.piece wide begun (some (leb mostEntries (s .gathered)) (ltb 0 (s .gathered)) (s .gathered) _ refl refl e)
-    at-piece false e there = at-gather (ltb 0 (s .read .«run_left»)) refl e there
+  abbrev coming : Bool
+  coming = ltb 0 (s .read .«run_left»)
 
-    at-stand : (b : Bool) → (not (s .stood) && isAt (s .read .stage) AtRuns) ≡ b → Chose chunk final w (cond b Stand next-entries)
-    at-stand true e =
-        let (fresh, there) = unstood (s .stood) (isAt (s .read .stage) AtRuns) e in
-        Chose.stand begun fresh (last-stage (s .read .stage) (eqb-true (stageNo (s .read .stage)) 4 there))
-    at-stand false e =
-        at-piece (ready s) refl (λ h. stood-there (s .stood) (isAt (s .read .stage) AtRuns) e (rw h refl))
-
-  at-begun : (b : Bool) → s .begun ≡ b → Chose chunk final w (cond (not b) Header (cond (not (s .stood) && isAt (s .read .stage) AtRuns) Stand next-entries))
-  at-begun true e = at-stand e (not (s .stood) && isAt (s .read .stage) AtRuns) refl
-  at-begun false e = Chose.header wide e
+  at-stand : (b : Bool) → (not (s .stood) && coming) ≡ b → Chose chunk final w (cond b Stand next-entries)
+  at-stand true e = let (fresh, there) = unstood (s .stood) coming e in Chose.stand fresh (ltb-true 0 (s .read .«run_left») there)
+  at-stand false e = at-piece (ready s) refl (stood-there (s .stood) coming e)
 
   chose-wide : Chose chunk final w (roomyMove s (length chunk) (w .from) final)
   unfolding roomyMove
-  chose-wide = at-begun (s .begun) refl
+  chose-wide = at-stand (not (s .stood) && coming) refl
 
 pub chose : (chunk : List ℕ) (final : Bool) (w : World) → Chose chunk final w (nextOf chunk final w)
 unfolding what
-chose chunk final w = go (leb (w .at + mostText) (length (w .out))) refl
+chose chunk final w = go (leb (w .at + mostWords) (length (w .out))) refl
   where
-    go : (b : Bool) → leb (w .at + mostText) (length (w .out)) ≡ b → Chose chunk final w (cond b (roomyMove (w .state) (length chunk) (w .from) final) Rest)
-    go true e = chose-wide chunk final w (leb-true (w .at + mostText) (length (w .out)) e)
-    go false e = Chose.unroomy (leb-false (w .at + mostText) (length (w .out)) e)
+    go : (b : Bool) → leb (w .at + mostWords) (length (w .out)) ≡ b → Chose chunk final w (cond b (roomyMove (w .state) (length chunk) (w .from) final) Rest)
+    go true e = chose-wide chunk final w (leb-true (w .at + mostWords) (length (w .out)) e)
+    go false e = Chose.unroomy (leb-false (w .at + mostWords) (length (w .out)) e)

@@ -7,15 +7,14 @@ use mathlib.Core.List.{List, [], _∷_, _++_, append-assoc, append-nil, flatten}
 use native.Mathlib.Omega.{arith}
 use lib.ListN.{length, drop, length-append, length-drop, drop-of-length-le}
 use lib.Seq.{length-take-le}
-use Rattle.scenario.specs.Printed.{printed}
-use Rattle.feed.specs.Feed.{World, mostText, feed, nextOf, over}
+use Rattle.feed.specs.Feed.{World, mostWords, feed, nextOf, over}
 use Rattle.feed.specs.declared.Move.the-variants.{Rest}
-use Rattle.session.specs.Session.{handed, took, wrote, Session, MayCome}
+use Rattle.session.specs.Session.{handed, took, wrote, fileWords, Session, MayCome}
 use Rattle.session.specs.Whole.{allTurns, mostBytes}
-use Rattle.session.specs.Chunks.{Roomed, Stopped, Fed, MayFollow, Chunks, ChunkTaken, ChunksPrint, ChunksOn, FewCalls, FedIsSession}
+use Rattle.session.specs.Chunks.{Roomed, Stopped, Fed, MayFollow, Chunks, ChunkTaken, ChunksAll, ChunksOn, FewCalls, FedIsSession}
 use Rattle.session.proofs.Spans.{span-rest}
 use Rattle.session.proofs.Rests.{call-keeps}
-use Rattle.session.proofs.Session.{last-out, rests-late, goes-on, prints-all, prints-on}
+use Rattle.session.proofs.Session.{last-out, rests-late, goes-on, rows-all, rows-on}
 use Rattle.session.proofs.Whole.{AllTaken, move-all-taken, calls-rest}
 
 flatten-then : (a b : List (List ℕ)) → flatten (a ++ b) ≡ flatten a ++ flatten b
@@ -24,21 +23,21 @@ flatten-then [] b = refl
 flatten-then (l ∷ a) b = ap (λ (x : List ℕ). l ++ x) (flatten-then a b) ∙ sym (append-assoc l (flatten a) (flatten b))
 
 -- ---- what is known after each call
-pub record Known (chunks : List (List ℕ)) (chunk : List ℕ) (final : Bool) (n : ℕ) (text : List ℕ) (w : World) : Type 0 where
+pub record Known (chunks : List (List ℕ)) (chunk : List ℕ) (final : Bool) (n : ℕ) (words : List ℕ) (w : World) : Type 0 where
   pub bytes : List ℕ
-  pub session : Session bytes text w
+  pub session : Session bytes words w
   pub short : length chunk ≤ mostBytes
   pub whole : bytes ++ drop (w .from) chunk ≡ flatten chunks
   pub closes : AllTaken chunk final w
   pub taken : Roomed w → (over (w .state) ≡ true) ⊎ ((length chunk ≤ w .from) × (final ≡ false))
-  pub few : n ≤ length chunks + length text
+  pub few : n ≤ length chunks + length words
   -- one more may be made
-  pub fewer : 0 < n → Stopped w → n < length chunks + length text
+  pub fewer : 0 < n → Stopped w → n < length chunks + length words
 
 -- a call from a place in a chunk, which is the next of the file
 module _
-    (chunks : List (List ℕ)) (chunk : List ℕ) (final : Bool) (n : ℕ) (bytes text : List ℕ) (w : World) (s : Session bytes text w) (from : ℕ)
-    (out : List ℕ) (at : ℕ) (after : World) (short : length chunk ≤ mostBytes) (room : at + mostText ≤ length out)
+    (chunks : List (List ℕ)) (chunk : List ℕ) (final : Bool) (n : ℕ) (bytes words : List ℕ) (w : World) (s : Session bytes words w) (from : ℕ)
+    (out : List ℕ) (at : ℕ) (after : World) (short : length chunk ≤ mostBytes) (room : at + mostWords ≤ length out)
     (is : after ≡ feed chunk final allTurns (handed w from out at)) where
   -- one that stopped for want of room has written
   wrote-some : Stopped after → 1 ≤ length (wrote at after)
@@ -48,8 +47,8 @@ module _
       length-take-le (after .at - at) (drop at (after .out)) (omega (arith, g .5 (omega arith), length-drop at (after .out))) in
       omega (arith, size, g .2)
 
-  called : bytes ++ drop from chunk ≡ flatten chunks → AllTaken chunk final (handed w from out at) → n ≤ length chunks + length text
-      → Known chunks chunk final n (text ++ wrote at after) after
+  called : bytes ++ drop from chunk ≡ flatten chunks → AllTaken chunk final (handed w from out at) → n ≤ length chunks + length words
+      → Known chunks chunk final n (words ++ wrote at after) after
   called whole closes few = record {
     bytes = bytes ++ took chunk from after;
     session = Session.calls s chunk final allTurns from out at after is;
@@ -63,9 +62,9 @@ module _
         (call-keeps chunk final (AllTaken chunk final) (move-all-taken chunk final) allTurns (handed w from out at) closes);
     taken =
         rests-late chunk final after
-        (subst (λ (v : World). nextOf chunk final v ≡ Rest) (sym is) (calls-rest bytes text w s chunk final from out at short));
-    few = omega (arith, length-append text (wrote at after));
-    fewer = λ some stopped. omega (arith, length-append text (wrote at after), wrote-some stopped);
+        (subst (λ (v : World). nextOf chunk final v ≡ Rest) (sym is) (calls-rest bytes words w s chunk final from out at short));
+    few = omega (arith, length-append words (wrote at after));
+    fewer = λ some stopped. omega (arith, length-append words (wrote at after), wrote-some stopped);
   }
 
 -- where the chunk before is all taken, the bytes so far are those of the chunks so far
@@ -79,8 +78,8 @@ next-whole chunks chunk next bytes from e all =
     ∙ ap (λ (x : List ℕ). flatten chunks ++ x) (sym (append-nil next))
     ∙ sym (flatten-then chunks (next ∷ []))
 
-known : {chunks : List (List ℕ)} {chunk : List ℕ} {final : Bool} {n : ℕ} {text : List ℕ} {w : World} → Fed chunks chunk final n text w
-    → Known chunks chunk final n text w
+pub known : {chunks : List (List ℕ)} {chunk : List ℕ} {final : Bool} {n : ℕ} {words : List ℕ} {w : World} → Fed chunks chunk final n words w
+    → Known chunks chunk final n words w
 unfolding flatten
 known (Fed.begins w e roomy) = record {
   bytes = [];
@@ -92,59 +91,59 @@ known (Fed.begins w e roomy) = record {
   few = omega arith;
   fewer = λ some. absurd (omega arith);
 }
-known (Fed.another {chunks} {chunk} {n} {text} {w} f all next final out at after short room is) =
+known (Fed.another {chunks} {chunk} {n} {words} {w} f all next final out at after short room is) =
     let k = known f in
-    called (chunks ++ (next ∷ [])) next final (suc n) (k .bytes) text w (k .session) 0 out at after short room is
+    called (chunks ++ (next ∷ [])) next final (suc n) (k .bytes) words w (k .session) 0 out at after short room is
     (next-whole chunks chunk next (k .bytes) (w .from) (k .whole) all) (λ c. absurd (false≢true (k .closes c .1)))
     (omega (arith, length-append chunks (next ∷ []), k .few))
-known (Fed.again {chunks} {chunk} {final} {n} {text} {w} f stopped out at after room is) =
+known (Fed.again {chunks} {chunk} {final} {n} {words} {w} f stopped out at after room is) =
     let k = known f in
-    called chunks chunk final (suc (suc n)) (k .bytes) text w (k .session) (w .from) out at after (k .short) room is (k .whole) (k .closes)
+    called chunks chunk final (suc (suc n)) (k .bytes) words w (k .session) (w .from) out at after (k .short) room is (k .whole) (k .closes)
     (k .fewer (omega arith) stopped)
 
 -- ---- what is claimed
-module _ (chunks : List (List ℕ)) (chunk : List ℕ) (final : Bool) (n : ℕ) (text : List ℕ) (w : World) (k : Known chunks chunk final n text w)
+module _ (chunks : List (List ℕ)) (chunk : List ℕ) (final : Bool) (n : ℕ) (words : List ℕ) (w : World) (k : Known chunks chunk final n words w)
     (later : List (List ℕ)) (none : MayFollow final later) where
   -- what is left of the file
-  abbrev others : List ℕ
+  abbrev pub others : List ℕ
   others = drop (w .from) chunk ++ flatten later
 
-  no-others : MayCome w others
+  pub no-others : MayCome w others
   unfolding flatten
   no-others c =
       let (all, last) = k .closes c in
       (λ i. drop-of-length-le chunk {i = w .from} all i ++ flatten (none last i))
 
-  file : k .bytes ++ others ≡ flatten (chunks ++ later)
+  pub file : k .bytes ++ others ≡ flatten (chunks ++ later)
   file =
       sym (append-assoc (k .bytes) (drop (w .from) chunk) (flatten later))
       ∙ ap (λ (x : List ℕ). x ++ flatten later) (k .whole)
       ∙ sym (flatten-then chunks later)
 
-  print : over (w .state) ≡ true → text ≡ printed (flatten (chunks ++ later))
-  print all = prints-all (k .bytes) text w (k .session) all others no-others ∙ ap printed file
+  all-words : over (w .state) ≡ true → words ≡ fileWords (flatten (chunks ++ later))
+  all-words all = rows-all (k .bytes) words w (k .session) all others no-others ∙ ap fileWords file
 
-  begin : (rest : List ℕ) × (printed (flatten (chunks ++ later)) ≡ text ++ rest)
+  begin : (rest : List ℕ) × (fileWords (flatten (chunks ++ later)) ≡ words ++ rest)
   begin =
-      let (rest, is) = prints-on (k .bytes) text w (k .session) others no-others in
-      (rest, ap printed (sym file) ∙ is)
+      let (rest, is) = rows-on (k .bytes) words w (k .session) others no-others in
+      (rest, ap fileWords (sym file) ∙ is)
 
 pub chunk-taken : ChunkTaken
-chunk-taken chunks chunk final n text w f = known f .taken
+chunk-taken chunks chunk final n words w f = known f .taken
 
-pub chunks-print : ChunksPrint
-chunks-print chunks chunk final n text w f all later none = print chunks chunk final n text w (known f) later none all
+pub chunks-all : ChunksAll
+chunks-all chunks chunk final n words w f all later none = all-words chunks chunk final n words w (known f) later none all
 
 pub chunks-on : ChunksOn
-chunks-on chunks chunk final n text w f later none = begin chunks chunk final n text w (known f) later none
+chunks-on chunks chunk final n words w f later none = begin chunks chunk final n words w (known f) later none
 
 pub few-calls : FewCalls
-few-calls chunks chunk final n text w f = known f .few
+few-calls chunks chunk final n words w f = known f .few
 
 pub fed-is-session : FedIsSession
-fed-is-session chunks chunk final n text w f = let k = known f in (k .bytes, k .session)
+fed-is-session chunks chunk final n words w f = let k = known f in (k .bytes, k .session)
 
 pub chunks : Chunks
-chunks cs chunk n text w f roomed =
-    let all = last-out _ _ (chunk-taken cs chunk true n text w f roomed) in
-    (all, chunks-print cs chunk true n text w f all [] (λ e. refl) ∙ ap (λ (x : List (List ℕ)). printed (flatten x)) (append-nil cs))
+chunks cs chunk n words w f roomed =
+    let all = last-out _ _ (chunk-taken cs chunk true n words w f roomed) in
+    (all, chunks-all cs chunk true n words w f all [] (λ e. refl) ∙ ap (λ (x : List (List ℕ)). fileWords (flatten x)) (append-nil cs))

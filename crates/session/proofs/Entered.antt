@@ -8,16 +8,15 @@ use borrow.Author.Tests.{le-leb}
 use lib.ListN.{length, take, replicate}
 use lib.Seq.{length-take-le, take-all, length-sets}
 use Rattle.machine.specs.Lists.{Lent}
-use Rattle.text.specs.Lines.{header}
 use Rattle.scenario.specs.Scenario.{Scenario}
-use Rattle.scenario.specs.Pieces.{pieceText}
+use Rattle.machine.specs.Names.{rowWords}
 use Rattle.scenario.specs.declared.Stage.the-variants.{Runs as AtRuns}
 use Rattle.stages.specs.declared.Read.{Read}
 use Rattle.stages.proofs.Means.{entries-apart}
-use Rattle.pieces.specs.Piece.{mostEntries, rowBytes, piece}
-use Rattle.pieces.specs.Stands.{listed, runEntries, Stands}
+use Rattle.pieces.specs.Piece.{mostEntries, piece}
+use Rattle.pieces.specs.Stands.{listed, pieceWords, runEntries, Stands}
 use Rattle.pieces.specs.declared.Standing.{Standing}
-use Rattle.pieces.proofs.Stands.{piece-stands, never-refused, prints-next}
+use Rattle.pieces.proofs.Stands.{piece-stands, never-refused, rows-next}
 use Rattle.feed.specs.Feed.{World, lentIn, more, gathers, runs}
 use Rattle.feed.specs.declared.State.{State}
 use Rattle.session.specs.Session.{wrote}
@@ -25,7 +24,6 @@ use Rattle.session.proofs.Chose.{Wide}
 use Rattle.session.proofs.Spans.{gathered-more}
 use Rattle.session.proofs.Goes.{piece-room, piece-wrote}
 use Rattle.session.proofs.Holds.{Entries, Kept}
-use Rattle.session.proofs.Writes.{said-rows, untold}
 
 module _ (r : Scenario) (l : Lent) (p : Standing) (gathered : ℕ) (past rows : List ℕ) where
   -- where some wait, the lock is set up
@@ -38,25 +36,23 @@ module _ (r : Scenario) (l : Lent) (p : Standing) (gathered : ℕ) (past rows : 
   however-many true more e h = h
   however-many false more e h = absurd (false≢true e)
 
-module _ (bytes text : List ℕ) (w : World) (k : Kept bytes text w) (begun : w .state .begun ≡ true) where
+module _ (bytes words : List ℕ) (w : World) (k : Kept bytes words w) where
   abbrev s : State
   s = w .state
 
   abbrev r : Read
   r = s .read
 
-  pub gather-kept : 0 < r .«run_left» → (r .stage ≡ AtRuns → s .stood ≡ true) → Kept bytes text (gathers w)
+  pub gather-kept : 0 < r .«run_left» → (r .stage ≡ AtRuns → s .stood ≡ true) → Kept bytes words (gathers w)
   gather-kept left there =
       let h = k .holds in
       let n = more s in
       let stood = there (h .coming left) in
-      let told = untold s (k .rows) text (s .begun) (s .told) begun (k .said) (λ a b c. omega arith) in
       let room : s .gathered + n ≤ mostEntries = omega (arith, h .few) in
       let fits : s .gathered + n ≤ length (w .schedule) = omega (arith, h .places) in
       record {
         reading = k .reading;
         past = k .past;
-        rows = k .rows;
         line-size = k .line-size;
         read-so = k .read-so;
         holds =
@@ -71,7 +67,6 @@ module _ (bytes text : List ℕ) (w : World) (k : Kept bytes text w) (begun : w 
               entries = rw stood (however-many _ _ _ _ _ _ (s .stood) (s .gathered + n) stood (h .entries));
               coming = λ z. h .coming left;
             };
-        said = rw (begun, told) (said-rows s (k .rows) text (s .begun) (s .told) begun told (k .said));
       }
 
   -- the entries that wait are one piece
@@ -83,24 +78,22 @@ module _ (bytes text : List ℕ) (w : World) (k : Kept bytes text w) (begun : w 
       let h = k .holds in
       take-all mostEntries waits (omega (arith, h .few, h .places, length-take-le (s .gathered) (w .schedule) (omega (arith, h .few, h .places))))
 
-  pub piece-kept : Wide w → 0 < s .gathered → Kept bytes (text ++ wrote (w .at) (runs w)) (runs w)
+  pub piece-kept : Wide w → 0 < s .gathered → Kept bytes (words ++ wrote (w .at) (runs w)) (runs w)
   piece-kept wide some =
       let h = k .holds in
       let l = lentIn w in
       let p = w .standing in
       let stood = set-up _ _ _ _ _ _ (s .stood) some (h .entries) in
       let (stage, st, rows) = however-many _ _ _ _ _ _ (s .stood) 0 stood (h .entries) in
-      let told = untold s (k .rows) text (s .begun) (s .told) begun (k .said) (λ a b c. omega arith) in
-      let new = pieceText l (listed l p) waits in
+      let new = pieceWords l (listed l p) waits in
       let out : wrote (w .at) (runs w) ≡ new =
-      piece-wrote w wide (never-refused l (r .pred) (r .top) (r .first) (k .past) p st) ∙ ap (pieceText l (listed l p)) one-piece in
+      piece-wrote w wide (never-refused l (r .pred) (r .top) (r .first) (k .past) p st) ∙ ap (pieceWords l (listed l p)) one-piece in
       let ran : runEntries waits (w .out) (w .at) ≡ waits =
-      rw (le-leb (w .at + rowBytes * length (piece waits)) (length (w .out)) (piece-room w wide)) one-piece in
+      rw (le-leb (w .at + rowWords * length (piece waits)) (length (w .out)) (piece-room w wide)) one-piece in
       let after = piece-stands l (r .pred) (r .top) (r .first) (k .past) p st waits (w .out) (w .at) _ refl in
       record {
         reading = k .reading;
         past = k .past ++ waits;
-        rows = k .rows ++ new;
         line-size = k .line-size;
         read-so = k .read-so;
         holds =
@@ -113,14 +106,8 @@ module _ (bytes text : List ℕ) (w : World) (k : Kept bytes text w) (begun : w 
                   rw stood (
                     stage,
                     subst (λ (x : List ℕ). Stands l (r .pred) (r .top) (r .first) (k .past ++ x) (runs w .standing)) ran after,
-                    ap (λ (x : List ℕ). x ++ new) rows ∙ sym (prints-next l (r .pred) (r .top) (r .first) (k .past) p st waits),
+                    ap (λ (x : List ℕ). words ++ x) out ∙ ap (λ (x : List ℕ). x ++ new) rows ∙ sym (rows-next l (r .pred) (r .top) (r .first) (k .past) p st waits),
                   );
               coming = h .coming;
             };
-        said =
-            rw (begun, told) (
-            ap (λ (x : List ℕ). text ++ x) out
-            ∙ ap (λ (x : List ℕ). x ++ new) (said-rows s (k .rows) text (s .begun) (s .told) begun told (k .said))
-            ∙ append-assoc header (k .rows) new
-            );
       }

@@ -1,27 +1,24 @@
--- A move, and a call, goes on in the chunk and in the text, and leaves what stands before its text and behind it. Assumes nothing.
+-- A move, and a call, goes on in the chunk and in the words, and leaves what stands before its words and behind it. Assumes nothing.
 use Prim.Native.Nat.{ℕ, zero, suc, _+_, _*_, _≤_}
 use mathlib.Core.Bool.{Bool, true, false, cond}
 use mathlib.Core.Path.{_≡_, refl, sym, ap, _∙_}
 use mathlib.Core.Logic.{inr}
 use mathlib.Core.List.{List, _++_}
 use native.Mathlib.Omega.{arith}
-use borrow.Author.Tests.{le-leb, eqb-true, eqb-false}
+use borrow.Author.Tests.{eqb-true, eqb-false}
 use lib.Dec.{eqb}
-use lib.ListN.{length, take, drop, length-append, length-take}
+use lib.ListN.{length, take, drop, length-take}
 use lib.Seq.{take-take, sets}
-use Rattle.text.specs.Lines.{header, fields, lastField, refusal}
-use Rattle.text.specs.Put.{stored, placeAfter}
-use Rattle.text.proofs.Digits.{text-short}
-use Rattle.scenario.specs.Pieces.{pieceText}
+use Rattle.machine.specs.Names.{rowWords}
 use Rattle.machine.specs.Lists.{Lent}
-use Rattle.pieces.specs.Piece.{mostEntries, rowBytes, piece, refusalOf}
-use Rattle.pieces.specs.Stands.{listed}
-use Rattle.pieces.specs.declared.Printed.{Printed}
-use Rattle.pieces.proofs.Stands.{there, text-behind, all-stays}
-use Rattle.feed.specs.Feed.{World, mostText, lentIn, writes, runs, moved, nextOf, rests, feed}
-use Rattle.feed.specs.declared.State.{State}
+use Rattle.pieces.specs.Piece.{mostEntries, piece, refusalOf}
+use Rattle.pieces.specs.Stands.{listed, pieceWords}
+use Rattle.pieces.specs.declared.Left.{Left}
+use Rattle.pieces.proofs.Piece.{six-each}
+use Rattle.pieces.proofs.Stands.{there, all-stays}
+use Rattle.feed.specs.Feed.{World, lentIn, runs, moved, nextOf, rests, feed}
 use Rattle.feed.specs.declared.Move.{Move}
-use Rattle.feed.specs.declared.Move.the-variants.{Header, Stand, Piece, Gather, Refusal, Line as ALine, Close, Rest}
+use Rattle.feed.specs.declared.Move.the-variants.{Stand, Piece, Gather, Line as ALine, Close, Rest}
 use Rattle.session.specs.Session.{took, wrote}
 use Rattle.session.proofs.Chose.{Wide, Chose, chose}
 use Rattle.session.proofs.Spans.{span, span-same, drop-later, stored-size, stored-front, stored-text, stored-behind}
@@ -83,32 +80,6 @@ module _ {w v u : World} (a : Goes w v) (b : Goes v u) where
       span (u .out) (w .at) (v .at) (u .at) (a .at) (b .at)
       ∙ ap (λ (l : List ℕ). l ++ wrote (v .at) u) (span-same (u .out) (v .out) (w .at) (v .at) (a .at) (b .front))
 
--- ---- moves that write
-pub header-short : length header ≤ 35
-unfolding header
-header-short = omega arith
-
-pub refusal-short : (n line : ℕ) → length (refusal n line) ≤ 51
-unfolding refusal fields lastField
-refusal-short n line = simp length-append (omega (arith, text-short n, text-short line))
-
--- text of few enough bytes
-module _ (w : World) (s : State) (most : ℕ) (t : List ℕ) (wide : Wide w) (short : length t ≤ most) (fits : most ≤ mostText) where
-  roomy : (stored most (w .out) (w .at) t ≡ sets (w .out) (w .at) t) × (placeAfter most (w .out) (w .at) t ≡ w .at + length t)
-  roomy = rw (le-leb (w .at + most) (length (w .out)) (omega arith)) (refl, refl)
-
-  pub writes-goes : Goes w (writes w s most t)
-  writes-goes =
-      let (is, place) = roomy in
-      let room : placeAfter most (w .out) (w .at) t ≤ length (w .out) = omega arith in
-      stored-goes w (writes w s most t) t (omega arith) is place room
-
-  pub writes-wrote : wrote (w .at) (writes w s most t) ≡ t
-  writes-wrote =
-      let (is, place) = roomy in
-      let room : placeAfter most (w .out) (w .at) t ≤ length (w .out) = omega arith in
-      stored-text (w .out) (w .at) t _ _ is place room
-
 -- ---- a piece
 module _ (w : World) (wide : Wide w) where
   abbrev scripts : Lent
@@ -117,22 +88,22 @@ module _ (w : World) (wide : Wide w) where
   abbrev entries : List ℕ
   entries = take (w .state .gathered) (w .schedule)
 
-  pub piece-room : w .at + rowBytes * length (piece entries) ≤ length (w .out)
+  pub piece-room : w .at + rowWords * length (piece entries) ≤ length (w .out)
   piece-room = omega (arith, length-take mostEntries entries)
 
-  -- its text, where the run is not refused
+  -- its words, where the run is not refused
   module _ (fine : refusalOf scripts (w .standing) ≡ 0) where
     abbrev rows : List ℕ
-    rows = pieceText scripts (listed scripts (w .standing)) (piece entries)
+    rows = pieceWords scripts (listed scripts (w .standing)) (piece entries)
 
     is : runs w .out ≡ sets (w .out) (w .at) rows
     is = there scripts (w .standing) entries (w .out) (w .at) piece-room fine .1
 
     place : runs w .at ≡ w .at + length rows
-    place = ap (λ (r : Printed). r .at) (there scripts (w .standing) entries (w .out) (w .at) piece-room fine .0)
+    place = ap (λ (r : Left). r .at) (there scripts (w .standing) entries (w .out) (w .at) piece-room fine .0)
 
     room : runs w .at ≤ length (w .out)
-    room = text-behind scripts (w .standing) entries (w .out) (w .at) _ _ refl refl piece-room fine .0
+    room = omega (arith, place, six-each scripts (w .standing) entries, piece-room)
 
     piece-goes : Goes w (runs w)
     piece-goes = stored-goes w (runs w) rows (omega arith) is place room
@@ -152,13 +123,9 @@ module _ (w : World) (wide : Wide w) where
 
 -- ---- all moves
 pub move-goes : (chunk : List ℕ) (final : Bool) (w : World) (m : Move) → Chose chunk final w m → Goes w (moved chunk w m)
-move-goes chunk final w Header (Chose.header wide _) = writes-goes w _ 35 header wide header-short (omega arith)
-move-goes chunk final w Stand (Chose.stand _ _ _) = still w _ (omega arith) refl refl
-move-goes chunk final w Piece (Chose.piece wide _ _) = runs-goes w wide
-move-goes chunk final w Gather (Chose.gather _ _ _ _) = still w _ (omega arith) refl refl
-move-goes chunk final w Refusal (Chose.refusal wide _ _ _ _ _) =
-    let r = w .state .read in
-    writes-goes w _ 51 (refusal (r .refused) (r .line)) wide (refusal-short (r .refused) (r .line)) (omega arith)
+move-goes chunk final w Stand (Chose.stand _ _) = still w _ (omega arith) refl refl
+move-goes chunk final w Piece (Chose.piece wide _) = runs-goes w wide
+move-goes chunk final w Gather (Chose.gather _ _ _) = still w _ (omega arith) refl refl
 move-goes chunk final w ALine (Chose.line _ _) = still w _ (omega arith) refl refl
 move-goes chunk final w Close (Chose.close _ _ _) = still w _ (omega arith) refl refl
 move-goes chunk final w Rest _ = still w w (omega arith) refl refl

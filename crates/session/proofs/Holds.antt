@@ -1,25 +1,22 @@
--- What every move keeps: what is read means the reading, the entries so far stand in the schedule, and the text so far is theirs.
+-- What every move keeps: what is read means the reading, the entries so far stand in the schedule, and the words so far are those of their rows.
 use Prim.Native.Nat.{ℕ, _<_, _≤_}
 use mathlib.Core.Bool.{Bool, true, false}
 use mathlib.Core.Path.{_≡_}
-use mathlib.Core.Logic.{_≢_}
 use mathlib.Core.List.{List, [], _++_}
 use lib.ListN.{length, take, replicate}
 use Rattle.machine.specs.Lists.{Lent, lists}
 use Rattle.lines.specs.Bytes.{longest, feed, finish}
 use Rattle.lines.specs.Laws.{means}
 use Rattle.lines.specs.declared.bytes.Held.{Held}
-use Rattle.text.specs.Lines.{header, refusal}
 use Rattle.scenario.specs.Scenario.{Scenario}
 use Rattle.scenario.specs.Printed.{Reading, next, ended}
 use Rattle.scenario.specs.ByBytes.{unread}
-use Rattle.scenario.specs.Pieces.{pieceText}
 use Rattle.scenario.specs.declared.Stage.the-variants.{Runs as AtRuns}
 use Rattle.stages.specs.Kept.{outline}
 use Rattle.stages.specs.Means.{Means}
 use Rattle.stages.specs.declared.Read.{Read}
 use Rattle.pieces.specs.Piece.{mostEntries}
-use Rattle.pieces.specs.Stands.{begun, Stands}
+use Rattle.pieces.specs.Stands.{begun, pieceWords, Stands}
 use Rattle.pieces.specs.declared.Standing.{Standing}
 use Rattle.feed.specs.Feed.{World}
 use Rattle.feed.specs.declared.State.{State}
@@ -29,13 +26,13 @@ use Rattle.feed.specs.declared.State.{State}
 abbrev pub lentOf : Read → List ℕ → List ℕ → List ℕ → Lent
 lentOf r lens ops vals = lists (take (r .threads) lens) (take (r .count) ops) (take (r .count) vals)
 
--- before the lock is set up no entry waits or is run; afterwards the standing is that of the entries in `past`, and `rows` is their text
+-- before the lock is set up no entry waits or is run; afterwards the standing is that of the entries in `past`, and `rows` are the words of their rows
 abbrev pub Entries : Bool → Scenario → Lent → Standing → ℕ → List ℕ → List ℕ → Type 0
 Entries false r l p gathered past rows = (past ≡ []) × (rows ≡ []) × (gathered ≡ 0)
 Entries true r l p gathered past rows =
     (r .stage ≡ AtRuns)
     × Stands l (r .pred) (r .top) (r .first) past p
-    × (rows ≡ pieceText l (begun l (r .pred) (r .top) (r .first)) past)
+    × (rows ≡ pieceWords l (begun l (r .pred) (r .top) (r .first)) past)
 
 -- the schedule is what was run, what waits, and what the last line still adds
 pub record Holds (r : Read) (stood : Bool) (gathered : ℕ) (p : Standing) (lens ops vals schedule : List ℕ) (q : Reading) (past rows : List ℕ) : Type 0 where
@@ -46,31 +43,18 @@ pub record Holds (r : Read) (stood : Bool) (gathered : ℕ) (p : Standing) (lens
   pub entries : Entries stood (outline r) (lentOf r lens ops vals) p gathered past rows
   pub coming : 0 < r .«run_left» → r .stage ≡ AtRuns
 
--- ---- the bytes and the text so far
+-- ---- the bytes so far
 -- the reading of the bytes: from the line that is held on, or, after the end of the input, all of it
 abbrev pub Bytes : Bool → List ℕ → List ℕ → Held → Reading → Type 0
 Bytes false bytes line h q = feed next unread bytes ≡ means line h q
 Bytes true bytes line h q = q ≡ ended (finish next (feed next unread bytes))
 
--- nothing, the header and the rows, or these and the refusal
-abbrev pub Said : Bool → Bool → State → List ℕ → List ℕ → Type 0
-Said false false s rows text = (text ≡ []) × (s .stood ≡ false) × (s .closed ≡ false)
-Said false true s rows text = ⊥
-Said true false s rows text = text ≡ header ++ rows
-Said true true s rows text =
-    (text ≡ header ++ (rows ++ refusal (s .read .refused) (s .read .line)))
-    × (s .read .refused ≢ 0)
-    × (s .gathered ≡ 0)
-    × (s .read .«run_left» ≡ 0)
-
-pub record Inv (bytes text : List ℕ) (s : State) (p : Standing) (line lens ops vals schedule : List ℕ) : Type 0 where
+pub record Inv (bytes rows : List ℕ) (s : State) (p : Standing) (line lens ops vals schedule : List ℕ) : Type 0 where
   pub reading : Reading
   pub past : List ℕ
-  pub rows : List ℕ
   pub line-size : length line ≡ longest
   pub read-so : Bytes (s .closed) bytes line (s .held) reading
   pub holds : Holds (s .read) (s .stood) (s .gathered) p lens ops vals schedule reading past rows
-  pub said : Said (s .begun) (s .told) s rows text
 
 abbrev pub Kept : List ℕ → List ℕ → World → Type 0
-Kept bytes text w = Inv bytes text (w .state) (w .standing) (w .line) (w .lens) (w .ops) (w .vals) (w .schedule)
+Kept bytes rows w = Inv bytes rows (w .state) (w .standing) (w .line) (w .lens) (w .ops) (w .vals) (w .schedule)

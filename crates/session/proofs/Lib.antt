@@ -12,7 +12,12 @@ pub mod Begins
 pub mod Calls
 pub mod Times
 pub mod Rests
+pub mod Carried
 pub mod Session
 pub mod Whole
 pub mod Chunks
+pub mod Scheduled
+pub mod Comes
+pub mod Piped
 pub mod Caller
+pub mod Cited

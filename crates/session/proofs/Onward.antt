@@ -98,7 +98,7 @@ grows-on l p past s s′ (Onward.more t times) g =
       schedule = ap (λ (x : List ℕ). x ++ new) (g .schedule) ∙ append-assoc past (g .others) new;
     }
 
-ended-same : (q : Reading) → ended q .scenario ≡ q .scenario
+pub ended-same : (q : Reading) → ended q .scenario ≡ q .scenario
 unfolding ended
 ended-same q = go (eqb (q .refused) 0) (ltb (stageNo (q .scenario .stage)) 3)
   where

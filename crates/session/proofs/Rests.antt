@@ -14,7 +14,7 @@ use Rattle.pieces.specs.Piece.{mostEntries}
 use Rattle.feed.specs.Feed.{World, stateWith, more, moved, takes, nextOf, rests, feed}
 use Rattle.feed.specs.declared.State.{State}
 use Rattle.feed.specs.declared.Move.{Move}
-use Rattle.feed.specs.declared.Move.the-variants.{Header, Stand, Piece, Gather, Refusal, Line as ALine, Close, Rest}
+use Rattle.feed.specs.declared.Move.the-variants.{Stand, Piece, Gather, Line as ALine, Close, Rest}
 use Rattle.session.specs.Whole.{lineMoves, enough}
 use Rattle.session.proofs.Chose.{Open, Chose, chose}
 use Rattle.session.proofs.Times.{line-few, end-few}
@@ -73,9 +73,7 @@ weight left s =
     (left + unless (s .closed)) * lineMoves
     + 2 * s .read .«run_left»
     + waiting (s .gathered)
-    + unless (s .begun)
     + unless (s .stood)
-    + unless (s .told)
 
 unless-most : (b : Bool) → unless b ≤ 1
 unless-most true = omega arith
@@ -143,22 +141,18 @@ module _ (chunk : List ℕ) (w : World) where
       omega arith
 
   lowers : (final : Bool) (m : Move) → Chose chunk final w m → rests m ≡ false → Lower (moved chunk w m)
-  lowers final Header (Chose.header _ e) _ = let begun = ap unless e in omega arith
-  lowers final Stand (Chose.stand _ e _) _ = let stood = ap unless e in omega arith
-  lowers final Piece (Chose.piece _ _ some) _ = let waits = waiting-some (s .gathered) some in omega arith
-  lowers final Gather (Chose.gather _ some few _) _ = gather-lowers some few
-  lowers final Refusal (Chose.refusal _ _ _ _ _ e) _ = let told = ap unless e in omega arith
+  lowers final Stand (Chose.stand e _) _ = let stood = ap unless e in omega arith
+  lowers final Piece (Chose.piece _ some) _ = let waits = waiting-some (s .gathered) some in omega arith
+  lowers final Gather (Chose.gather some few _) _ = gather-lowers some few
   lowers final ALine (Chose.line o there) _ = line-lowers o there
   lowers final Close (Chose.close o _ _) _ = close-lowers o
   lowers final Rest c e = absurd (true≢false e)
 
 -- ---- so a call comes to rest
 only-rest : (m : Move) → rests m ≡ true → m ≡ Rest
-only-rest Header e = absurd (false≢true e)
 only-rest Stand e = absurd (false≢true e)
 only-rest Piece e = absurd (false≢true e)
 only-rest Gather e = absurd (false≢true e)
-only-rest Refusal e = absurd (false≢true e)
 only-rest ALine e = absurd (false≢true e)
 only-rest Close e = absurd (false≢true e)
 only-rest Rest e = refl
@@ -192,4 +186,4 @@ module _ (chunk : List ℕ) (final : Bool) where
   rests-in turns w h =
       let s = w .state in
       rests-within turns w
-      (omega (arith, unless-most (s .closed), unless-most (s .begun), unless-most (s .stood), unless-most (s .told), waiting-most (s .gathered)))
+      (omega (arith, unless-most (s .closed), unless-most (s .stood), waiting-most (s .gathered)))

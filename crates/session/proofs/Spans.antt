@@ -40,34 +40,34 @@ drop-later l m a b h e =
     subst (λ (n : ℕ). drop n l ≡ drop n m) place (sym (drop-drop (b - a) a l) ∙ ap (drop (b - a)) e ∙ drop-drop (b - a) a m)
 
 -- bytes stored from a place on
-module _ (out : List ℕ) (at : ℕ) (text : List ℕ) (end : ℕ) (out′ : List ℕ) (is : out′ ≡ sets out at text) (place : end ≡ at + length text) (room : end ≤ length out) where
+module _ (out : List ℕ) (at : ℕ) (words : List ℕ) (end : ℕ) (out′ : List ℕ) (is : out′ ≡ sets out at words) (place : end ≡ at + length words) (room : end ≤ length out) where
   abbrev behind : List ℕ
-  behind = text ++ drop (at + length text) out
+  behind = words ++ drop (at + length words) out
 
   split : out′ ≡ take at out ++ behind
-  split = is ∙ sets-eq text out at (omega arith) ∙ append-assoc (take at out) text (drop (at + length text) out)
+  split = is ∙ sets-eq words out at (omega arith) ∙ append-assoc (take at out) words (drop (at + length words) out)
 
   front-size : length (take at out) ≡ at
   front-size = length-take-le at out (omega arith)
 
   pub stored-size : length out′ ≡ length out
-  stored-size = ap length is ∙ length-sets out at text
+  stored-size = ap length is ∙ length-sets out at words
 
   pub stored-front : take at out′ ≡ take at out
   stored-front = ap (take at) split ∙ take-at (take at out) behind at front-size
 
-  pub stored-text : take (end - at) (drop at out′) ≡ text
+  pub stored-text : take (end - at) (drop at out′) ≡ words
   stored-text =
-      let size : length text ≡ end - at = omega arith in
+      let size : length words ≡ end - at = omega arith in
       ap (λ (l : List ℕ). take (end - at) (drop at l)) split
       ∙ ap (take (end - at)) (drop-at (take at out) behind at front-size)
-      ∙ take-at text (drop (at + length text) out) (end - at) size
+      ∙ take-at words (drop (at + length words) out) (end - at) size
 
   pub stored-behind : drop end out′ ≡ drop end out
   stored-behind =
-      let size : length (take at out ++ text) ≡ end = length-append (take at out) text ∙ rw front-size (sym place) in
-      ap (drop end) (is ∙ sets-eq text out at (omega arith))
-      ∙ drop-at (take at out ++ text) (drop (at + length text) out) end size
+      let size : length (take at out ++ words) ≡ end = length-append (take at out) words ∙ rw front-size (sym place) in
+      ap (drop end) (is ∙ sets-eq words out at (omega arith))
+      ∙ drop-at (take at out ++ words) (drop (at + length words) out) end size
       ∙ ap (λ (n : ℕ). drop n out) (sym place)
 
 -- entries stored behind those that wait, and those that are left

@@ -12,7 +12,6 @@ use Rattle.lines.specs.Laws.{means}
 use Rattle.lines.specs.declared.bytes.Held.{Held}
 use Rattle.lines.proofs.Kept.{kept-length, length-after}
 use Rattle.lines.proofs.Laws.{any-cut, a-line, the-end}
-use Rattle.text.specs.Lines.{header}
 use Rattle.scenario.specs.Printed.{Reading, next, ended}
 use Rattle.scenario.specs.ByBytes.{unread}
 use Rattle.scenario.proofs.ByBytes.{long-alike}
@@ -23,7 +22,6 @@ use Rattle.session.specs.Session.{took as tookOf}
 use Rattle.session.proofs.Chose.{Open}
 use Rattle.session.proofs.Holds.{Holds, Bytes, Inv, Kept}
 use Rattle.session.proofs.Lined.{line-holds, end-holds}
-use Rattle.session.proofs.Writes.{said-rows, untold}
 
 -- ---- the bytes that are read are all that is looked at
 module _ (b : ℕ) (bs l : List ℕ) (h : Held) where
@@ -92,12 +90,9 @@ unclosed : (b : Bool) (bytes line : List ℕ) (h : Held) (q : Reading) → b ≡
 unclosed false bytes line h q e r = r
 unclosed true bytes line h q e r = absurd (true≢false e)
 
-module _ (bytes text : List ℕ) (w : World) (k : Kept bytes text w) (o : Open (w .state)) where
+module _ (bytes words : List ℕ) (w : World) (k : Kept bytes words w) (o : Open (w .state)) where
   abbrev s : State
   s = w .state
-
-  untold-here : s .told ≡ false
-  untold-here = untold s (k .rows) text (s .begun) (s .told) (o .begun) (k .said) (λ refused b c. refused (o .refused))
 
   so-far : feed next unread bytes ≡ means (w .line) (s .held) (k .reading)
   so-far = unclosed (s .closed) bytes (w .line) (s .held) (k .reading) (o .closed) (k .read-so)
@@ -105,9 +100,6 @@ module _ (bytes text : List ℕ) (w : World) (k : Kept bytes text w) (o : Open (
   line-end-size : length (lineEnd (w .line) (s .held)) ≡ longest
   unfolding lineEnd
   line-end-size = end-size (s .held .cr) (w .line) (s .held .len) (k .line-size)
-
-  rows-said : text ≡ header ++ k .rows
-  rows-said = said-rows s (k .rows) text (s .begun) (s .told) (o .begun) untold-here (k .said)
 
   module _ (chunk : List ℕ) where
     abbrev bs : List ℕ
@@ -129,7 +121,7 @@ module _ (bytes text : List ℕ) (w : World) (k : Kept bytes text w) (o : Open (
     line-by : (d : Bool) → feed next unread (bytes ++ take (taken .used) bs) ≡ read (k .reading) bs (w .line) (s .held) (k .line-size) d
         → let r = s .read in
         let l = judge whole in
-        Inv (bytes ++ take (taken .used) bs) text
+        Inv (bytes ++ take (taken .used) bs) words
         (cond d (stateWith s unheld (onLine r l (w .lens)) (s .gathered)) (stateWith s (taken .held) r (s .gathered)))
         (w .standing)
         (taken .line)
@@ -141,29 +133,25 @@ module _ (bytes text : List ℕ) (w : World) (k : Kept bytes text w) (o : Open (
         record {
           reading = next (k .reading) whole;
           past = k .past;
-          rows = k .rows;
           line-size = took-size bs (w .line) (s .held) (k .line-size);
           read-so = rw (o .closed) (e ∙ ap (λ (l : List ℕ). reader l false (next (k .reading) whole)) (sym (no-line (taken .line))));
           holds =
-              line-holds (s .read) (s .stood) (s .gathered) (w .standing) (w .lens) (w .ops) (w .vals) (w .schedule) (k .reading) (k .past) (k .rows) (k .holds)
+              line-holds (s .read) (s .stood) (s .gathered) (w .standing) (w .lens) (w .ops) (w .vals) (w .schedule) (k .reading) (k .past) words (k .holds)
               whole (o .left);
-          said = rw (o .begun, untold-here) rows-said;
         }
     line-by false e =
         record {
           reading = k .reading;
           past = k .past;
-          rows = k .rows;
           line-size = took-size bs (w .line) (s .held) (k .line-size);
           read-so = rw (o .closed) e;
           holds = k .holds;
-          said = rw (o .begun, untold-here) rows-said;
         }
 
-    pub line-kept : Kept (bytes ++ tookOf chunk (w .from) (takes chunk w)) text (takes chunk w)
+    pub line-kept : Kept (bytes ++ tookOf chunk (w .from) (takes chunk w)) words (takes chunk w)
     line-kept =
         let used : w .from + taken .used - w .from ≡ taken .used = omega arith in
-        subst (λ (n : ℕ). Kept (bytes ++ take n bs) text (takes chunk w)) (sym used) (line-by (taken .held .done) fed)
+        subst (λ (n : ℕ). Kept (bytes ++ take n bs) words (takes chunk w)) (sym used) (line-by (taken .held .done) fed)
 
   -- ---- the end
   abbrev final : Held
@@ -185,19 +173,18 @@ module _ (bytes text : List ℕ) (w : World) (k : Kept bytes text w) (o : Open (
       (w .schedule)
       (ended (cond d (next (k .reading) lastly) (k .reading)))
       (k .past)
-      (k .rows)
+      words
   end-by true =
       end-holds _ _ _ _ _ _ _ _ _ _ _
-      (line-holds (s .read) (s .stood) (s .gathered) (w .standing) (w .lens) (w .ops) (w .vals) (w .schedule) (k .reading) (k .past) (k .rows) (k .holds)
+      (line-holds (s .read) (s .stood) (s .gathered) (w .standing) (w .lens) (w .ops) (w .vals) (w .schedule) (k .reading) (k .past) words (k .holds)
       lastly (o .left))
   end-by false = end-holds _ _ _ _ _ _ _ _ _ _ _ (k .holds)
 
-  pub close-kept : Kept bytes text (ends w)
+  pub close-kept : Kept bytes words (ends w)
   close-kept =
       record {
         reading = ended (cond (final .done) (next (k .reading) lastly) (k .reading));
         past = k .past;
-        rows = k .rows;
         line-size = line-end-size;
         read-so =
             sym (
@@ -205,5 +192,4 @@ module _ (bytes text : List ℕ) (w : World) (k : Kept bytes text w) (o : Open (
             ∙ ap ended (the-end Reading next long-alike (k .reading) (w .line) (s .held) (k .line-size))
             );
         holds = end-by (final .done);
-        said = rw (o .begun, untold-here) rows-said;
       }

@@ -1,5 +1,5 @@
--- No line adds more than 65,535 entries. Assumes nothing.
-use Prim.Native.Nat.{ℕ, _≤_}
+-- How a line may be judged; so no line adds more than 65,535 entries. Assumes nothing.
+use Prim.Native.Nat.{ℕ, _<_, _≤_}
 use mathlib.Core.Bool.{Bool, true, false, _&&_, cond}
 use mathlib.Core.Path.{_≡_, refl}
 use mathlib.Core.List.{List, [], _∷_}
@@ -23,59 +23,68 @@ use Rattle.session.specs.Whole.{mostTimes}
 use Rattle.session.proofs.Ends.{both}
 
 -- ---- what a line says
+-- what holds of each way that a line may be judged, where a run line has its number of times, holds of every line
+module _
+    (P : Line → Type 0) (broken : P Broken) (heading : P Header) (bad-number : P BadNumber) (lock : (a b c : ℕ) → P (Lock a b c))
+    (pred : (a b c : ℕ) → P (PredLine a b c)) (op : (a b c : ℕ) → P (Op a b c)) (run : (t n : ℕ) → 0 < n → n ≤ mostTimes → P (Run t n))
+    (no-kind : P NoKind) where
+  either : (b : Bool) (l m : Line) → P l → P m → P (cond b l m)
+  either true l m h g = h
+  either false l m h g = g
+
+  runs-by : (a b c : ℕ) → P (runs a b c)
+  runs-by a b c = go (ltb a 256 && (ltb 0 b && (ltb b 65536 && eqb c 0))) refl
+    where
+      go : (d : Bool) → (ltb a 256 && (ltb 0 b && (ltb b 65536 && eqb c 0))) ≡ d → P (cond d (Run a b) BadNumber)
+      go true e =
+          let (some, others) = both (ltb 0 b) _ (both (ltb a 256) _ e .1) in
+          run a b (ltb-true 0 b some) (omega (arith, ltb-true b 65536 (both (ltb b 65536) _ others .0)))
+      go false e = bad-number
+
+  kinds-by : (k : List ℕ) (a b c : ℕ) → P (kinds k a b c)
+  unfolding kinds
+  kinds-by k a b c =
+      either (equal k (bytes "lock")) (Lock a b c) _ (lock a b c)
+      (either (equal k (bytes "pred")) (PredLine a b c) _ (pred a b c)
+      (either (equal k (bytes "op")) (Op a b c) _ (op a b c)
+      (either (equal k (bytes "run")) (runs a b c) NoKind (runs-by a b c) no-kind)))
+
+  numbered-by : (k : List ℕ) (a b c : Parsed) → P (numbered k a b c)
+  numbered-by k No b c = bad-number
+  numbered-by k (Is a) No c = bad-number
+  numbered-by k (Is a) (Is b) No = bad-number
+  numbered-by k (Is a) (Is b) (Is c) = kinds-by k a b c
+
+  fourth-by : (k : List ℕ) (a b : Parsed) (l : List (List ℕ)) → P (fourth k a b l)
+  fourth-by k a b [] = broken
+  fourth-by k a b (c ∷ []) = numbered-by k a b (number c)
+  fourth-by k a b (c ∷ d ∷ l) = broken
+
+  third-by : (k : List ℕ) (a : Parsed) (l : List (List ℕ)) → P (third k a l)
+  third-by k a [] = broken
+  third-by k a (b ∷ l) = fourth-by k a (number b) l
+
+  second-by : (k : List ℕ) (l : List (List ℕ)) → P (second k l)
+  second-by k [] = broken
+  second-by k (a ∷ l) = third-by k (number a) l
+
+  first-by : (l : List (List ℕ)) → P (first l)
+  first-by [] = broken
+  first-by (k ∷ l) = second-by k l
+
+  pub judge-by : (l : List ℕ) → P (judge l)
+  unfolding judge
+  judge-by l =
+      either (equal l header) Header _ heading
+      (either (ltb longest (length l)) Broken _ broken (either (clean l) (first (fields l)) Broken (first-by (fields l)) broken))
+
 abbrev Few : Line → Type 0
 Few l = runLeft l ≤ mostTimes
 
-either : (b : Bool) (l m : Line) → Few l → Few m → Few (cond b l m)
-either true l m h g = h
-either false l m h g = g
-
-run-few : (a b c : ℕ) → Few (runs a b c)
-run-few a b c = go (ltb a 256 && (ltb 0 b && (ltb b 65536 && eqb c 0))) refl
-  where
-    go : (d : Bool) → (ltb a 256 && (ltb 0 b && (ltb b 65536 && eqb c 0))) ≡ d → Few (cond d (Run a b) BadNumber)
-    go true e =
-        let others = both (ltb 0 b) _ (both (ltb a 256) _ e .1) .1 in
-        omega (arith, ltb-true b 65536 (both (ltb b 65536) _ others .0))
-    go false e = omega arith
-
-kind-few : (k : List ℕ) (a b c : ℕ) → Few (kinds k a b c)
-unfolding kinds
-kind-few k a b c =
-    either (equal k (bytes "lock")) (Lock a b c) _ (omega arith)
-    (either (equal k (bytes "pred")) (PredLine a b c) _ (omega arith)
-    (either (equal k (bytes "op")) (Op a b c) _ (omega arith)
-    (either (equal k (bytes "run")) (runs a b c) NoKind (run-few a b c) (omega arith))))
-
-numbered-few : (k : List ℕ) (a b c : Parsed) → Few (numbered k a b c)
-numbered-few k No b c = omega arith
-numbered-few k (Is a) No c = omega arith
-numbered-few k (Is a) (Is b) No = omega arith
-numbered-few k (Is a) (Is b) (Is c) = kind-few k a b c
-
-fourth-few : (k : List ℕ) (a b : Parsed) (l : List (List ℕ)) → Few (fourth k a b l)
-fourth-few k a b [] = omega arith
-fourth-few k a b (c ∷ []) = numbered-few k a b (number c)
-fourth-few k a b (c ∷ d ∷ l) = omega arith
-
-third-few : (k : List ℕ) (a : Parsed) (l : List (List ℕ)) → Few (third k a l)
-third-few k a [] = omega arith
-third-few k a (b ∷ l) = fourth-few k a (number b) l
-
-second-few : (k : List ℕ) (l : List (List ℕ)) → Few (second k l)
-second-few k [] = omega arith
-second-few k (a ∷ l) = third-few k (number a) l
-
-first-few : (l : List (List ℕ)) → Few (first l)
-first-few [] = omega arith
-first-few (k ∷ l) = second-few k l
-
 judge-few : (l : List ℕ) → Few (judge l)
-unfolding judge
-judge-few l =
-    either (equal l header) Header _ (omega arith)
-    (either (ltb longest (length l)) Broken _ (omega arith)
-    (either (clean l) (first (fields l)) Broken (first-few (fields l)) (omega arith)))
+judge-few =
+    judge-by Few (omega arith) (omega arith) (omega arith) (λ a b c. omega arith) (λ a b c. omega arith) (λ a b c. omega arith) (λ t n some most. most)
+    (omega arith)
 
 -- ---- what is kept after it, and after the end of the input
 taken-few : (b e : Bool) (r : Read) (l : Line) (k : ℕ) → r .«run_left» ≤ mostTimes → Few l

@@ -1,13 +1,12 @@
--- A call with turns enough comes to rest, and one call prints a whole file.
+-- A call with turns enough comes to rest, and one call has the rows of a whole file.
 use Prim.Native.Nat.{ℕ, _+_, _-_, _*_, _^_, _≤_}
 use mathlib.Core.Path.{_≡_}
 use mathlib.Core.Bool.{Bool, true}
 use mathlib.Core.List.{List}
 use lib.ListN.{length, take}
-use Rattle.scenario.specs.Printed.{printed}
-use Rattle.feed.specs.Feed.{World, fresh, mostText, nextOf, feed, over}
+use Rattle.feed.specs.Feed.{World, fresh, mostWords, nextOf, feed, over}
 use Rattle.feed.specs.declared.Move.the-variants.{Rest}
-use Rattle.session.specs.Session.{Roomy, handed, Session}
+use Rattle.session.specs.Session.{Roomy, handed, fileWords, Session}
 
 -- ---- how many moves are enough
 -- the most entries that a line adds
@@ -18,10 +17,10 @@ mostTimes = 65535
 abbrev pub lineMoves : ℕ
 lineMoves = 1 + 2 * mostTimes
 
--- a line may end at each byte that is left, and the end of the input comes after them; entries of the line before may be left. Four moves come once
--- each: the header, the setting up, the refusal, and the run of entries that wait
+-- a line may end at each byte that is left, and the end of the input comes after them; entries of the line before may be left. Two moves come once
+-- each: the setting up, and the run of entries that wait
 abbrev pub enough : List ℕ → World → ℕ
-enough chunk w = (length chunk - w .from + 1) * lineMoves + 2 * w .state .read .«run_left» + 4
+enough chunk w = (length chunk - w .from + 1) * lineMoves + 2 * w .state .read .«run_left» + 2
 
 -- the turns of a call in code
 abbrev pub allTurns : ℕ
@@ -38,21 +37,21 @@ ComesToRest = (chunk : List ℕ) (final : Bool) (turns : ℕ) (w : World) → en
 
 -- what the calls leave has no more entries than one line adds
 abbrev pub FewLeft : Type 0
-FewLeft = (bytes text : List ℕ) (w : World) → Session bytes text w → w .state .read .«run_left» ≤ mostTimes
+FewLeft = (bytes words : List ℕ) (w : World) → Session bytes words w → w .state .read .«run_left» ≤ mostTimes
 
 -- so every call in code comes to rest
 abbrev pub CallsRest : Type 0
 CallsRest =
-    (bytes text : List ℕ) (w : World) → Session bytes text w → (chunk : List ℕ) (final : Bool) (from : ℕ) (out : List ℕ) (at : ℕ) → length chunk ≤ mostBytes
+    (bytes words : List ℕ) (w : World) → Session bytes words w → (chunk : List ℕ) (final : Bool) (from : ℕ) (out : List ℕ) (at : ℕ) → length chunk ≤ mostBytes
     → nextOf chunk final (feed chunk final allTurns (handed w from out at)) ≡ Rest
 
--- places for what the file prints, and behind them for what a move may write
+-- places for the rows of the file, and behind them for what a move may store
 abbrev pub RoomFor : List ℕ → List ℕ → Type 0
-RoomFor file out = length (printed file) + mostText ≤ length out
+RoomFor file out = length (fileWords file) + mostWords ≤ length out
 
--- all is out, and the list for the text begins with what the file prints
+-- all is out, and the list begins with the words of the file's rows
 abbrev pub Whole : List ℕ → World → Type 0
-Whole file after = (over (after .state) ≡ true) × (after .at ≡ length (printed file)) × (take (after .at) (after .out) ≡ printed file)
+Whole file after = (over (after .state) ≡ true) × (after .at ≡ length (fileWords file)) × (take (after .at) (after .out) ≡ fileWords file)
 
 -- the whole file in one call, with turns enough
 abbrev pub OneCall : Type 0

@@ -1,28 +1,38 @@
-// A scenario on standard input, the waveform of its trace on standard output. The trace is printed into a list and taken from there, so that
-// neither is ever held as a whole. The refusal of a scenario is said on standard error, behind the waveform of the rows before it.
-use blocks::CHANGE;
+// A scenario on standard input, the waveform of its trace on standard output. The refusal of a scenario is said on standard error, behind the
+// waveform of the rows before it.
+ghost use Prim.Native.Nat.{_+_, _*_, _/_, _≤_};
+ghost use mathlib.Core.Path.{_≡_};
+ghost use mathlib.Core.Bool.{cond};
+ghost use lib.Dec.{leb};
+ghost use lib.ListN.{length};
+ghost use lib.Seq.{sets};
+ghost use Rattle.vcd.specs.Trace.{rowSignals};
+ghost use Rattle.waves.specs.Waves.{leftBy, textBy};
 use blocks::Signals;
-use cell::pred::Pred;
-use chunks::Input;
-use feed::Fed;
+use blocks::Wave;
+use feed::Stop;
+use intake::Came;
+use intake::Intake;
 use libc::STDERR_FILENO;
-use libc::STDIN_FILENO;
 use libc::STDOUT_FILENO;
-use pieces::Standing;
+use text::ROW_WORDS;
+use waves::Left;
 
 // What is handed from turn to turn, besides the lists.
 struct Run {
-    state: feed::State,
-    standing: Standing,
-    input: Input,
-    // How many bytes of the trace are printed, and how many of them were taken.
-    printed: usize,
-    taken: usize,
-    wave: waves::State,
+    intake: Intake,
+    wave: Wave,
     // How many bytes of the waveform wait to be written.
     at: usize,
     // All is written, or no more can be.
     ended: bool,
+}
+
+// How many bytes of the waveform wait, once there is room for more.
+struct Room {
+    at: usize,
+    // Some could not be written.
+    lost: bool,
 }
 
 fn main() {
@@ -31,8 +41,8 @@ fn main() {
     let mut ops = [0; 1024];
     let mut vals = [0; 1024];
     let mut schedule = [0; 64];
+    let mut rows = [0; 1536];
     let mut chunk = io::large_buffer();
-    let mut trace = io::large_buffer();
     let mut out = io::large_buffer();
     turns(
         &mut line,
@@ -40,22 +50,27 @@ fn main() {
         &mut ops,
         &mut vals,
         &mut schedule,
+        &mut rows,
         &mut chunk,
-        &mut trace,
         &mut out,
     );
 }
 
+// What as many rows as the list holds may change has room in the other; and the lists have the places that the reader needs.
 fn turns(
     line: &mut [u8; 80],
     lens: &mut [u64],
     ops: &mut [u64],
     vals: &mut [u64],
     schedule: &mut [u64],
+    rows: &mut [u64],
     chunk: &mut [u8],
-    trace: &mut [u8],
     out: &mut [u8],
-) {
+)
+    requires { ⌜ 93 * (length (now rows) / 6) ≤ length (now out) ⌝ }
+    requires { ⌜ (16 ≤ length (now lens)) × (1024 ≤ length (now ops)) × (1024 ≤ length (now vals)) ⌝ }
+    requires { ⌜ (64 ≤ length (now schedule)) × (384 ≤ length (now rows)) ⌝ }
+{
     let mut run = begin(out);
     // A proved loop has to end, and nothing says that the input does: it counts its turns down from a number that no run uses up.
     let mut left = u64::MAX;
@@ -64,156 +79,97 @@ fn turns(
             return;
         }
         left -= 1;
-        run = print_more(run, line, lens, ops, vals, schedule, chunk, trace);
-        run = turn(run, trace, out);
+        run = turn(run, line, lens, ops, vals, schedule, rows, chunk, out);
     }
 }
 
 // The signals start as they are after setup.
 fn begin(out: &mut [u8]) -> Run {
+    let signals = Signals { exc: 0, rc: 0 };
+    let wave = Wave {
+        time: 0,
+        written: 0,
+        signals,
+    };
     Run {
-        state: feed::fresh(),
-        standing: pieces::at_first(Pred::Any, 1, 0),
-        input: chunks::unread(),
-        printed: 0,
-        taken: 0,
-        wave: waves::fresh(0, 0),
-        at: blocks::put_front(out, 0, Signals { exc: 0, rc: 0 }),
+        intake: intake::begin(),
+        wave,
+        at: blocks::put_front(out, 0, signals),
         ended: false,
     }
 }
 
-// ---- the trace
-
-// Where the printed trace is all taken, the next of it is printed in its place; a chunk is read where the last one is all taken.
-fn print_more(
+// More rows, and what they change behind what waits.
+fn turn(
     run: Run,
     line: &mut [u8; 80],
     lens: &mut [u64],
     ops: &mut [u64],
     vals: &mut [u64],
     schedule: &mut [u64],
+    rows: &mut [u64],
     chunk: &mut [u8],
-    trace: &mut [u8],
-) -> Run {
-    if run.taken < run.printed {
-        return run;
-    }
-    let input = next_chunk(run.input, chunk);
-    let fed = take_chunk(run, input, line, lens, ops, vals, schedule, chunk, trace);
-    printed(run, input, fed)
+    out: &mut [u8],
+) -> Run
+    requires { ⌜ 93 * (length (now rows) / 6) ≤ length (now out) ⌝ }
+{
+    let intake = run.intake;
+    let input = intake::read_chunk(intake, chunk);
+    let came = intake::take_more(intake, input, line, lens, ops, vals, schedule, chunk, rows);
+    let n = came.at / ROW_WORDS;
+    let room = make_room(n, out, run.at);
+    let wave = run.wave;
+    let left = put_rows(wave, rows, n, out, room.at);
+    after(came, room.lost, left, out)
 }
 
-fn next_chunk(input: Input, chunk: &mut [u8]) -> Input {
-    if chunks::stays(input) {
-        return input;
+// What waits is written where the changes of n rows have no room behind it.
+fn make_room(n: usize, out: &[u8], at: usize) -> Room
+    requires { ⌜ 93 * n ≤ length (now out) ⌝ }
+    ensures { λ r. ⌜ r .at ≡ cond (leb (at + 93 * n) (length (now (out .entry)))) at 0 ⌝ }
+    ensures { λ r. ⌜ r .at + 93 * n ≤ length (now (out .entry)) ⌝ }
+{
+    if waves::has_room(out.len(), at, n) {
+        return Room { at, lost: false };
     }
-    let got = libc::read(STDIN_FILENO, chunk);
-    if got < 0 {
+    Room {
+        at: 0,
+        lost: !write(chunks::front(out, at)),
+    }
+}
+
+// No row is lost, since there is room.
+fn put_rows(wave: Wave, rows: &[u64], n: usize, out: &mut [u8], at: usize) -> Left
+    requires { ⌜ 6 * n ≤ length (now rows) ⌝ }
+    requires { ⌜ at + 93 * n ≤ length (now out) ⌝ }
+    ensures { λ r. ⌜ r ≡ record { wave = leftBy wave (rowSignals n (now (rows .entry))); at = at + length (textBy wave (rowSignals n (now (rows .entry)))) } ⌝ }
+    ensures { λ _. ⌜ now (out .exit) ≡ sets (now (out .entry)) at (textBy wave (rowSignals n (now (rows .entry)))) ⌝ }
+{
+    waves::put_rows(wave, rows, n, out, at)
+}
+
+// Before more is read, which may take long, and at the end, what waits is written.
+fn after(came: Came, lost: bool, left: Left, out: &mut [u8]) -> Run {
+    let intake = came.intake;
+    let input = intake.input;
+    let wave = left.wave;
+    let stop = came.stop;
+    let ends = input.failed || feed::ends(stop);
+    let wait = feed::is_full(stop) && !ends;
+    let done = !lost && (wait || write(chunks::front(out, left.at)));
+    finish(done && feed::ends(stop), wave, stop, out);
+    if input.failed {
         io::write_all(
             STDERR_FILENO,
             b"wave: the input could not be read to its end, so the waveform is not whole\n",
         );
     }
-    chunks::after_read(io::count(got, chunk), got < 0)
-}
-
-fn take_chunk(
-    run: Run,
-    input: Input,
-    line: &mut [u8; 80],
-    lens: &mut [u64],
-    ops: &mut [u64],
-    vals: &mut [u64],
-    schedule: &mut [u64],
-    chunk: &[u8],
-    trace: &mut [u8],
-) -> Fed {
-    let state = run.state;
-    let standing = run.standing;
-    feed::feed(
-        state,
-        standing,
-        line,
-        lens,
-        ops,
-        vals,
-        schedule,
-        chunks::front(chunk, input.len),
-        input.from,
-        input.last,
-        trace,
-        0,
-    )
-}
-
-fn printed(run: Run, input: Input, fed: Fed) -> Run {
-    let state = fed.state;
-    let standing = fed.standing;
-    let wave = run.wave;
     Run {
-        state,
-        standing,
-        input: chunks::taken_to(input, fed.from),
-        printed: fed.at,
-        taken: 0,
+        intake,
         wave,
-        at: run.at,
-        ended: run.ended,
+        at: if wait { left.at } else { 0 },
+        ended: ends || !done,
     }
-}
-
-// ---- the waveform
-
-// Takes what is printed as far as its changes have room, and writes them where the next has none, which is where taking stops, or all is taken.
-fn turn(run: Run, trace: &[u8], out: &mut [u8]) -> Run {
-    let r = take_more(run, trace, out);
-    let over = is_over(r);
-    let full = !text::has_room(out.len(), r.at, CHANGE);
-    let w = if over || full { written(r, out) } else { r };
-    if over {
-        return finished(w, out);
-    }
-    w
-}
-
-fn take_more(run: Run, trace: &[u8], out: &mut [u8]) -> Run {
-    let wave = run.wave;
-    let t = waves::take(
-        wave,
-        chunks::front(trace, run.printed),
-        run.taken,
-        out,
-        run.at,
-    );
-    let state = run.state;
-    let standing = run.standing;
-    let input = run.input;
-    let after = t.state;
-    Run {
-        state,
-        standing,
-        input,
-        printed: run.printed,
-        taken: t.from,
-        wave: after,
-        at: t.at,
-        ended: run.ended,
-    }
-}
-
-// No more of the trace comes, and all of it was taken.
-fn is_over(run: Run) -> bool {
-    let input = run.input;
-    let state = run.state;
-    run.printed <= run.taken && (input.failed || feed::is_over(state))
-}
-
-fn written(run: Run, out: &[u8]) -> Run {
-    let mut r = run;
-    r.ended = !write(chunks::front(out, run.at));
-    r.at = 0;
-    r
 }
 
 fn write(text: &[u8]) -> bool {
@@ -227,24 +183,13 @@ fn write(text: &[u8]) -> bool {
     done
 }
 
-// The close. A waveform that is not whole has none.
-fn finished(run: Run, out: &mut [u8]) -> Run {
-    let mut r = run;
-    let input = run.input;
-    if !run.ended && !input.failed {
-        let state = run.wave;
-        let n = blocks::put_close(out, 0, state.wave);
-        write(chunks::front(out, n));
-        tell_refusal(run.state, out);
+// The close, and the refusal, where the waveform is whole.
+fn finish(whole: bool, wave: Wave, stop: Stop, out: &mut [u8]) {
+    if !whole {
+        return;
     }
-    r.ended = true;
-    r
-}
-
-fn tell_refusal(state: feed::State, out: &mut [u8]) {
-    let read = state.read;
-    if read.refused != 0 {
-        let n = text::put_refusal(out, 0, read.refused, read.line);
-        io::write_all(STDERR_FILENO, chunks::front(out, n));
-    }
+    let n = blocks::put_close(out, 0, wave);
+    write(chunks::front(out, n));
+    let m = prints::put_stop(stop, out, 0);
+    io::write_all(STDERR_FILENO, chunks::front(out, m));
 }

@@ -34,7 +34,7 @@ use Rattle.scenario.specs.Names.{wrongLine}
 use Rattle.scenario.specs.Scenario.{Scenario, taken}
 use Rattle.scenario.specs.Refused.{stageNo, at, refusalOf}
 use Rattle.scenario.specs.Setup.{Accepted}
-use Rattle.scenario.specs.Printed.{Reading, reading, afterLine, start, next, ended, rowsOf}
+use Rattle.scenario.specs.Printed.{Reading, reading, afterLine, start, next, ended, rowsOf, readingOf}
 use Rattle.scenario.specs.declared.Stage.the-variants.{Header as AtHeader, Lock as AtLock}
 use Rattle.scenario.proofs.Setup.{passes, always-accepted}
 use Rattle.waves.specs.Laws.{Fit, FileFits}
@@ -193,6 +193,7 @@ ended-same r = by-tests (eqb (r .refused) 0) (ltb (stageNo (r .scenario .stage))
     by-tests false b = refl
 
 pub file-fits : FileFits
+unfolding readingOf
 file-fits file =
     let r = whole next start file in
     let s = r .scenario in

@@ -1,7 +1,3 @@
-pub mod Calls
-pub mod Rows
+pub mod PutRows
 pub mod Fits
 pub mod Laws
-pub mod ByteKinds
-pub mod Turns
-pub mod Scans

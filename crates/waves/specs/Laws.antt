@@ -1,72 +1,71 @@
--- What is claimed: a call writes what the bytes that it took write, calls may cut the trace anywhere, and for the trace that a scenario file prints
--- the text is the waveform of its rows.
-use Prim.Native.Nat.{ℕ, _+_, _-_, _^_, _<_, _≤_}
+-- What is claimed: rows may be cut anywhere; where there is room none is lost; and what the rows of a scenario file write is the waveform of them,
+-- however the reader came to them.
+use Prim.Native.Nat.{ℕ, _+_, _*_, _/_, _^_, _<_, _≤_}
 use mathlib.Core.Path.{_≡_}
-use mathlib.Core.Logic.{_⊎_}
 use mathlib.Core.List.{List, [], _∷_, _++_}
-use lib.ListN.{length, take}
+use lib.ListN.{length}
 use lib.Seq.{sets}
+use Rattle.machine.specs.Names.{rowWords}
+use Rattle.machine.specs.Run.{wordsOf}
 use Rattle.machine.specs.declared.Row.{Row}
-use Rattle.lines.specs.Lines.{whole}
-use Rattle.scenario.specs.Printed.{next, start, ended, rowsOf, printed}
+use Rattle.scenario.specs.Printed.{rowsIn}
+use Rattle.feed.specs.Feed.{World}
+use Rattle.session.specs.Piped.{ComesTo}
 use Rattle.blocks.specs.Blocks.{front, changeBytes}
-use Rattle.blocks.specs.Wave.{close, waveform}
+use Rattle.blocks.specs.Wave.{atFirst, close, waveform}
 use Rattle.blocks.specs.declared.Signals.{Signals}
-use Rattle.vcd.specs.Trace.{mostRows, ofRows}
+use Rattle.blocks.specs.declared.Wave.{Wave}
+use Rattle.vcd.specs.Trace.{mostRows, rowSignals, ofRows}
 use Rattle.vcd.specs.Read.{Some, found}
-use Rattle.waves.specs.Waves.{Taking, freshOf, leftBy, textBy, takes}
-use Rattle.waves.specs.declared.State.{State}
+use Rattle.waves.specs.Waves.{leftBy, textBy, leftOf, storedOf}
 
--- ---- calls
--- what a call took of the bytes l
-abbrev pub tookOf : List ℕ → ℕ → Taking → List ℕ
-tookOf l from r = take (r .from - from) l
+-- the signals of rows, out of their words
+abbrev pub SignalsOfRows : Type 0
+SignalsOfRows = (rows : List Row) (rest : List ℕ) → rowSignals (length rows) (wordsOf rows ++ rest) ≡ ofRows rows
 
-abbrev pub WritesTaken : Type 0
-WritesTaken =
-    (s : State) (l : List ℕ) (from : ℕ) (out : List ℕ) (at : ℕ) (r : Taking) → r ≡ takes s l from out at
-    → (r .state ≡ leftBy s (tookOf l from r))
-    × (r .out ≡ sets out at (textBy s (tookOf l from r)))
-    × (r .at ≡ at + length (textBy s (tookOf l from r)))
-    × (from ≤ r .from)
-    × (r .from ≤ from + length l)
-
--- it stops only at the end of the bytes, or where a change has no room
-abbrev pub StopsLate : Type 0
-StopsLate =
-    (s : State) (l : List ℕ) (from : ℕ) (out : List ℕ) (at : ℕ) (r : Taking) → r ≡ takes s l from out at
-    → (r .from ≡ from + length l) ⊎ (length out < r .at + changeBytes)
-
--- however the bytes are cut, they write the same
+-- however the rows are cut, they write the same
 abbrev pub CutAnywhere : Type 0
 CutAnywhere =
-    (s : State) (a b : List ℕ) → (textBy s (a ++ b) ≡ textBy s a ++ textBy (leftBy s a) b) × (leftBy s (a ++ b) ≡ leftBy (leftBy s a) b)
+    (w : Wave) (a b : List Row)
+    → (textBy w (ofRows (a ++ b)) ≡ textBy w (ofRows a) ++ textBy (leftBy w (ofRows a)) (ofRows b))
+    × (leftBy w (ofRows (a ++ b)) ≡ leftBy (leftBy w (ofRows a)) (ofRows b))
 
--- ---- the trace of a scenario file
+-- where there are so many rows and what they change has room, all of it is stored
+abbrev pub NoneLost : Type 0
+NoneLost =
+    (w : Wave) (rows : List ℕ) (n : ℕ) (out : List ℕ) (at : ℕ) → rowWords * n ≤ length rows → at + changeBytes * n ≤ length out
+    → (leftOf w rows n out at ≡ record { wave = leftBy w (rowSignals n rows); at = at + length (textBy w (rowSignals n rows)) })
+    × (storedOf w rows n out at ≡ sets out at (textBy w (rowSignals n rows)))
+
+-- ---- a scenario file
 -- as the lock is after setup
 abbrev pub unlocked : Signals
 unlocked = record { exc = 0; rc = 0 }
 
--- the rows of a file: of its whole schedule, up to its refusal
-abbrev pub fileRows : List ℕ → List Row
-fileRows file = rowsOf (ended (whole next start file) .scenario)
-
--- exc is 0 or 1 and rc is below 2 ^ 64, so that both are read whole
+-- exc is 0 or 1 and rc is below 2 ^ 64
 unfoldable pub Fit : List Row → Type 0
 Fit [] = Unit {0}
 Fit (row ∷ rows) = (row .exc ≤ 1) × (row .rc < 2 ^ 64) × Fit rows
 
 abbrev pub FileFits : Type 0
-FileFits = (file : List ℕ) → Fit (fileRows file)
+FileFits = (file : List ℕ) → Fit (rowsIn file)
 
--- the opening, what the trace's bytes write, and the close
+-- the opening, what the rows write, and the close
 abbrev pub waveOf : List ℕ → List ℕ
-waveOf file = let s = freshOf unlocked in front unlocked ++ (textBy s (printed file) ++ close (leftBy s (printed file) .wave))
+waveOf file = let w = atFirst unlocked in let xs = ofRows (rowsIn file) in front unlocked ++ (textBy w xs ++ close (leftBy w xs))
 
 -- they are the waveform of the file's rows
 abbrev pub WaveOfFile : Type 0
-WaveOfFile = (file : List ℕ) → length (fileRows file) < 2 ^ 64 → waveOf file ≡ waveform unlocked (ofRows (fileRows file))
+WaveOfFile = (file : List ℕ) → length (rowsIn file) < 2 ^ 64 → waveOf file ≡ waveform unlocked (ofRows (rowsIn file))
 
--- and the reader finds the flag and the count of every row in it
+-- so it is with the words that the reader stored, in whatever chunks the file came
+abbrev pub WaveByReader : Type 0
+WaveByReader =
+    (file words : List ℕ) (w : World) → ComesTo file words w
+    → let first = atFirst unlocked in
+    let xs = rowSignals (length words / rowWords) words in
+    waveOf file ≡ front unlocked ++ (textBy first xs ++ close (leftBy first xs))
+
+-- and the reader of waveforms finds the flag and the count of every row in it
 abbrev pub FoundInWave : Type 0
-FoundInWave = (file : List ℕ) → length (fileRows file) ≤ mostRows → found (waveOf file) ≡ Some (unlocked ∷ ofRows (fileRows file))
+FoundInWave = (file : List ℕ) → length (rowsIn file) ≤ mostRows → found (waveOf file) ≡ Some (unlocked ∷ ofRows (rowsIn file))

@@ -1,62 +1,40 @@
--- The changes of a waveform for the bytes of a printed trace, however these are cut.
-use Prim.Native.Nat.{ℕ, _+_}
+-- The changes of a waveform for rows, piece after piece, with times as code counts them.
+use Prim.Native.Nat.{ℕ, _+_, _*_}
 use mathlib.Core.Bool.{Bool, _&&_, cond}
 use mathlib.Core.List.{List, [], _∷_, _++_}
-use lib.Dec.{eqb, leb}
-use lib.ListN.{length}
+use lib.Dec.{leb}
+use lib.ListN.{length, getD}
 use lib.Seq.{sets}
+use Rattle.machine.specs.Names.{rowWords}
 use Rattle.blocks.specs.Blocks.{change, changeBytes}
-use Rattle.blocks.specs.Wave.{atFirst, timeOf, counted}
+use Rattle.blocks.specs.Wave.{timeOf, counted}
 use Rattle.blocks.specs.declared.Signals.{Signals}
 use Rattle.blocks.specs.declared.Wave.{Wave}
-use Rattle.lines.specs.Lines.{lf}
-use Rattle.waves.specs.Seen.{lineStart, within, isRow, signalsOf}
-use Rattle.waves.specs.declared.Seen.{Seen}
-use Rattle.waves.specs.declared.State.{State}
+use Rattle.vcd.specs.Trace.{rowSignals}
+use Rattle.waves.specs.declared.Left.{Left}
 
-abbrev pub stateOf : Seen → Wave → State
-stateOf l p = record { seen = l; wave = p }
+-- of the row whose words start at p
+abbrev pub signalsAt : List ℕ → ℕ → Signals
+signalsAt rows p = record { exc = getD rows (p + 4) 0; rc = getD rows (p + 5) 0 }
 
--- before the first byte, of a trace that starts with the signals s
-abbrev pub freshOf : Signals → State
-freshOf s = stateOf lineStart (atFirst s)
+-- where the waveform stands after the signals of rows, and what they write
+unfoldable pub leftBy : Wave → List Signals → Wave
+leftBy w [] = w
+leftBy w (x ∷ xs) = leftBy (counted w x) xs
 
--- ---- one byte
--- it ends a row
-abbrev pub endsRow : State → ℕ → Bool
-endsRow s b = eqb b lf && isRow (s .seen)
+unfoldable pub textBy : Wave → List Signals → List ℕ
+textBy w [] = []
+textBy w (x ∷ xs) = change (timeOf w) (w .signals) x ++ textBy (counted w x) xs
 
-unfoldable pub onByte : State → ℕ → State
-onByte s b =
-    record {
-      seen = cond (eqb b lf) lineStart (within (s .seen) b);
-      wave = cond (endsRow s b) (counted (s .wave) (signalsOf (s .seen))) (s .wave);
-    }
+-- ---- a call
+-- there are so many rows, and what they change has room, however long it is
+abbrev pub fits : List ℕ → ℕ → List ℕ → ℕ → Bool
+fits rows n out at = leb (rowWords * n) (length rows) && leb (at + changeBytes * n) (length out)
 
-unfoldable pub byteText : State → ℕ → List ℕ
-byteText s b = cond (endsRow s b) (change (timeOf (s .wave)) (s .wave .signals) (signalsOf (s .seen))) []
+unfoldable pub leftOf : Wave → List ℕ → ℕ → List ℕ → ℕ → Left
+leftOf w rows n out at =
+    let xs = rowSignals n rows in
+    cond (fits rows n out at) (record { wave = leftBy w xs; at = at + length (textBy w xs) }) (record { wave = w; at = at })
 
--- ---- bytes
-unfoldable pub leftBy : State → List ℕ → State
-leftBy s [] = s
-leftBy s (b ∷ l) = leftBy (onByte s b) l
-
-unfoldable pub textBy : State → List ℕ → List ℕ
-textBy s [] = []
-textBy s (b ∷ l) = byteText s b ++ textBy (onByte s b) l
-
--- ---- a call: bytes of the trace are taken while a change has room
-pub record Taking : Type 0 where
-  pub state : State
-  pub from : ℕ
-  pub out : List ℕ
-  pub at : ℕ
-
-abbrev pub taking : State → ℕ → List ℕ → ℕ → Taking
-taking s from out at = record { state = s; from = from; out = out; at = at }
-
-unfoldable pub takes : State → List ℕ → ℕ → List ℕ → ℕ → Taking
-takes s [] from out at = taking s from out at
-takes s (b ∷ l) from out at =
-    let t = byteText s b in
-    cond (leb (at + changeBytes) (length out)) (takes (onByte s b) l (from + 1) (sets out at t) (at + length t)) (taking s from out at)
+unfoldable pub storedOf : Wave → List ℕ → ℕ → List ℕ → ℕ → List ℕ
+storedOf w rows n out at = cond (fits rows n out at) (sets out at (textBy w (rowSignals n rows))) out

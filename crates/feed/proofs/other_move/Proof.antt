@@ -7,28 +7,46 @@ use Rattle.feed.proofs.other_move.Statement.{statement}
 use Rattle.feed.proofs.other_move.Tie as tie
 
 returns : tie.Need-returns
-returns c = rw (c .before .before .before .before .enum-told .given .1, c .before .before .head .ensures .0, c .before .before .head .ensures .1) refl
+returns c = rw (c .enum-told .given .1) refl
 
 returns-2 : tie.Need-returns-2
 returns-2 c = rw (c .enum-told2 .given .1) refl
 
 returns-3 : tie.Need-returns-3
-returns-3 c = rw (c .enum-told3 .given .1) refl
+returns-3 c = rw (c .before .before .before .before .enum-told3 .given .1, c .before .before .gather .ensures .0, c .before .before .gather .ensures .1) refl
 
 returns-4 : tie.Need-returns-4
-returns-4 c = rw (c .before .before .before .before .enum-told4 .given .1, c .before .before .gather .ensures .0, c .before .before .gather .ensures .1) refl
+returns-4 c = let a = c .before .before .before .before .before .before .before .before .before .before .before .before .before .before .before .before .before .before .args in rw (c .before .before .before .before .before .before .before .before .before .before .before .enum-told4 .given .1) (ap (besides (now (a .schedule))) (c .before .before .before .before .before .before .take-in .ensures))
 
 returns-5 : tie.Need-returns-5
-returns-5 c = rw (c .before .before .before .before .enum-told5 .given .1, c .before .before .tell .ensures .0, c .before .before .tell .ensures .1) refl
+returns-5 c = let a = c .before .before .before .before .before .before .before .before .before .before .before .before .before .before .before .before .before .before .args in rw (c .before .before .before .before .before .before .before .before .before .before .before .enum-told5 .given .1) (ap (besides (now (a .schedule))) (c .before .before .before .before .before .before .close .ensures))
 
 returns-6 : tie.Need-returns-6
-returns-6 c = let a = c .before .before .before .before .before .before .before .before .before .before .before .before .before .before .before .before .before .before .before .args in rw (c .before .before .before .before .before .before .before .before .before .before .before .enum-told6 .given .1) (ap (besides (now (a .schedule)) (now (a .out))) (c .before .before .before .before .before .before .take-in .ensures))
-
-returns-7 : tie.Need-returns-7
-returns-7 c = let a = c .before .before .before .before .before .before .before .before .before .before .before .before .before .before .before .before .before .before .before .args in rw (c .before .before .before .before .before .before .before .before .before .before .before .enum-told7 .given .1) (ap (besides (now (a .schedule)) (now (a .out))) (c .before .before .before .before .before .before .close .ensures))
-
-returns-8 : tie.Need-returns-8
-returns-8 c = rw (c .enum-told8 .given .1) refl
+returns-6 c = rw (c .enum-told6 .given .1) refl
 
 pub other-move-spec : {M : Type 1} → statement M
-other-move-spec = tie.close (tie.spec (λ c. search needs) (λ c κs. search needs) (λ c. search needs) (λ c. search needs) (λ c. search needs) (λ c κs. search needs) (λ c. search needs) (λ c κs. search needs) (λ c. search needs) (λ c κs. search needs) (λ c. search needs) (λ c κs. search needs) (λ c. search needs) (λ c. search needs) returns returns-2 returns-3 (λ c. search needs) returns-4 (λ c. search needs) returns-5 (λ c. search needs) (λ c. search needs) (λ c. search needs) returns-6 (λ c. search needs) (λ c. search needs) (λ c. search needs) returns-7 returns-8)
+other-move-spec =
+    tie.close
+    (tie.spec
+    (λ c. search needs)
+    (λ c. search needs)
+    (λ c. search needs)
+    (λ c κs. search needs)
+    (λ c. search needs)
+    (λ c κs. search needs)
+    (λ c. search needs)
+    (λ c κs. search needs)
+    (λ c. search needs)
+    returns
+    returns-2
+    (λ c. search needs)
+    returns-3
+    (λ c. search needs)
+    (λ c. search needs)
+    (λ c. search needs)
+    returns-4
+    (λ c. search needs)
+    (λ c. search needs)
+    (λ c. search needs)
+    returns-5
+    returns-6)

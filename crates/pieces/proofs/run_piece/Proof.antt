@@ -6,7 +6,8 @@ use denote.Ref.{now}
 use lib.ListN.{length}
 use borrow.Author.Needs.{needs}
 use borrow.Author.Tests.{leb-true}
-use Rattle.pieces.specs.Piece.{rowBytes, piece, printedOf, storedOf}
+use Rattle.machine.specs.Names.{rowWords}
+use Rattle.pieces.specs.Piece.{piece, leftOf, storedOf}
 use Rattle.pieces.proofs.Piece.{room-so}
 use Rattle.pieces.proofs.run_piece.Statement.{statement}
 use Rattle.pieces.proofs.run_piece.Tie as tie
@@ -14,21 +15,21 @@ use Rattle.pieces.proofs.run_piece.Tie as tie
 run-there-requires : tie.Need-run-there-requires
 run-there-requires c κs =
     let a = c .before .before .before .before .before .before .before .before .before .args in
-    let room = room-so (now (a .entries)) (now (a .out)) (a .at) _ _ true (c .before .before .before .smaller .ensures) (c .before .before .has-room .ensures) (c .before .if1 .taken) in
-    leb-true (a .at + rowBytes * length (piece (now (a .entries)))) (length (now (a .out))) room
+    let room = room-so (now (a .entries)) (now (a .rows)) (a .at) _ _ true (c .before .before .before .smaller .ensures) (c .before .before .has-room .ensures) (c .before .if1 .taken) in
+    leb-true (a .at + rowWords * length (piece (now (a .entries)))) (length (now (a .rows))) room
 
 returns : tie.Need-returns
-unfolding printedOf storedOf
+unfolding leftOf storedOf
 returns c =
     let a = c .before .before .before .before .before .before .before .before .before .before .before .before .args in
-    let room = room-so (now (a .entries)) (now (a .out)) (a .at) _ _ true (c .before .before .before .before .before .before .smaller .ensures) (c .before .before .before .before .before .has-room .ensures) (c .before .before .before .before .if1 .taken) in
+    let room = room-so (now (a .entries)) (now (a .rows)) (a .at) _ _ true (c .before .before .before .before .before .before .smaller .ensures) (c .before .before .before .before .before .has-room .ensures) (c .before .before .before .before .if1 .taken) in
     rw room (c .before .before .run-there .ensures)
 
 returns-2 : tie.Need-returns-2
-unfolding printedOf storedOf
+unfolding leftOf storedOf
 returns-2 c =
     let a = c .before .before .before .before .before .before .before .before .args in
-    let room = room-so (now (a .entries)) (now (a .out)) (a .at) _ _ false (c .before .before .smaller .ensures) (c .before .has-room .ensures) (c .if1 .left) in
+    let room = room-so (now (a .entries)) (now (a .rows)) (a .at) _ _ false (c .before .before .smaller .ensures) (c .before .has-room .ensures) (c .if1 .left) in
     rw room (refl, refl)
 
 pub run-piece-spec : {M : Type 1} → statement M

@@ -1,0 +1,3 @@
+pub mod PutRows
+pub mod Laws
+pub mod Pages
