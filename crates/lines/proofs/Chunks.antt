@@ -144,7 +144,7 @@ held-by-most : (back : Bool) (n b : ℕ) → n ≤ 81 → heldBy back n b .len �
 held-by-most true n b h = by-most true (eqb b lf) (eqb b cr) n h
 held-by-most false n b h = by-most false (eqb b lf) (eqb b cr) n h
 
-after-most : (h : Held) (b : ℕ) → h .len ≤ 81 → heldAfter h b .len ≤ 81
+pub after-most : (h : Held) (b : ℕ) → h .len ≤ 81 → heldAfter h b .len ≤ 81
 unfolding heldAfter
 after-most h b e = held-by-most (h .cr) (h .len) b e
 

@@ -1,15 +1,12 @@
 -- No more than 81 bytes of a line are counted, at any time: 81 stands for a line that is too long. Assumes nothing.
-use Prim.Native.Nat.{ℕ, _+_, _≤_}
+use Prim.Native.Nat.{ℕ, _≤_}
 use mathlib.Core.Bool.{Bool, true, false, cond}
-use mathlib.Core.Path.{_≡_, refl, sym, subst}
+use mathlib.Core.Path.{sym, subst}
 use mathlib.Core.List.{List, [], _∷_}
 use native.Mathlib.Omega.{arith}
-use borrow.Author.Tests.{ltb-true}
-use lib.Dec.{eqb, ltb}
 use lib.ListN.{drop}
-use Rattle.lines.specs.Lines.{cr, lf}
-use Rattle.lines.specs.Bytes.{longest}
-use Rattle.lines.specs.Held.{grown, held, heldBy, heldAfter, lineAfter, taking, oneMore, Took, took}
+use Rattle.lines.specs.Held.{heldAfter, lineAfter, taking, oneMore, Took, took}
+use Rattle.lines.proofs.Chunks.{after-most}
 use Rattle.lines.specs.declared.bytes.Held.{Held}
 use Rattle.feed.specs.Feed.{World, moved}
 use Rattle.feed.specs.declared.State.{State}
@@ -18,32 +15,6 @@ use Rattle.feed.specs.declared.Move.the-variants.{Stand, Piece, Gather, Line as
 use Rattle.session.specs.Session.{handed, Session}
 use Rattle.session.proofs.Chose.{Chose}
 use Rattle.session.proofs.Rests.{call-keeps}
-
--- ---- one byte
-grown-by : (n : ℕ) (t : Bool) → ltb n longest ≡ t → cond t (n + 1) 81 ≤ 81
-grown-by n true e = omega (arith, ltb-true n longest e)
-grown-by n false e = omega arith
-
-grown-most : (n : ℕ) → grown n ≤ 81
-grown-most n = grown-by n (ltb n longest) refl
-
-returned-most : (t u : Bool) (n : ℕ) → n ≤ 81
-    → cond t (held n false true) (cond u (held (grown n) true false) (held (grown (grown n)) false false)) .len ≤ 81
-returned-most true u n h = h
-returned-most false true n h = grown-most n
-returned-most false false n h = grown-most (grown n)
-
-plain-most : (u : Bool) (n : ℕ) → n ≤ 81 → cond u (held n true false) (held (grown n) false false) .len ≤ 81
-plain-most true n h = h
-plain-most false n h = grown-most n
-
-by-most : (back : Bool) (n b : ℕ) → n ≤ 81 → heldBy back n b .len ≤ 81
-by-most true n b h = returned-most (eqb b lf) (eqb b cr) n h
-by-most false n b h = plain-most (eqb b cr) n h
-
-after-most : (h : Held) (b : ℕ) → h .len ≤ 81 → heldAfter h b .len ≤ 81
-unfolding heldAfter
-after-most h b e = by-most (h .cr) (h .len) b e
 
 -- ---- the bytes of a call
 either-most : (d : Bool) (g : Held) (m : List ℕ) (t : Took) → g .len ≤ 81 → t .held .len ≤ 81 → cond d (taking g m 1) (oneMore t) .held .len ≤ 81
