@@ -1,5 +1,5 @@
 #!/bin/sh
-# Shows that memory does not grow with the input: scenarios of so many bytes, a run line an entry, go through a pipe into our programs runner and
+# Shows that memory does not grow with the input: scenarios of so many bytes, a run line an entry, go through a pipe into our programs of run and
 # wave and into those in plain C, and the most memory that each held is printed. The input is made as it is read and stored nowhere.
 # That is VmHWM of /proc, taken when all but the end was read. Under the kit's emulator, where the machine is not x86-64, it is the memory of the
 # emulator with the program in it.
@@ -27,7 +27,7 @@ line=$(($(scenario short 4 | wc -c) - opening))
 # rows_in NAME: the number of rows, by the last line that was printed: the trace counts rows from 0, and the waveform ends at the last time
 rows_in() {
     case $1 in
-    runner) awk -F, '{ print $1 + 1 }' "$room/last" ;;
+    run) awk -F, '{ print $1 + 1 }' "$room/last" ;;
     wave) sed 's/^#//' "$room/last" ;;
     esac
 }
@@ -54,12 +54,12 @@ peak() {
 
 echo "the most memory held, $where:"
 printf '%8s %12s %10s %10s %10s\n' program bytes entries "ours KB" "C KB"
-for name in runner wave; do
-    rt check "$name" >/dev/null || fail "$name is not proved: run rt check $name"
+for name in run wave; do
+    rt check "program_$name" >/dev/null || fail "program_$name is not proved: run rt check program_$name"
     build_c "bench/$name.c" "target/bench/$name"
     for bytes in $sizes; do
         entries=$((3 + (bytes - opening) / line))
-        ours=$(peak "$name" "$entries" "$@" "target/bin/$name")
+        ours=$(peak "$name" "$entries" "$@" "target/bin/program_$name")
         theirs=$(peak "$name" "$entries" "$@" "target/bench/$name")
         printf '%8s %12d %10d %10d %10d\n' "$name" $((opening + (entries - 3) * line)) "$entries" "$ours" "$theirs"
     done

@@ -1,5 +1,5 @@
 #!/bin/sh
-# Compares the programs wave and unwave with the second programs, byte for byte: wave on every scenario file that oracle/scenarios.rs makes,
+# Compares the programs of `wave` and `unwave` with the second programs, byte for byte: wave on every scenario file that oracle/scenarios.rs makes,
 # against oracle/lock.rs and oracle/vcd.rs in a row, the line of a refusal too; unwave on damaged waveforms that oracle/vcd.rs makes, and on files at its limits.
 # usage: tests/compare-waves.sh [-f FAMILY] [-e EVERY] [-w WORKERS] [-s SEED] [-n FILES]
 #   -f FAMILY    takes one family of scenario files only, as `scenarios.rs` names them (all)
@@ -26,7 +26,7 @@ fail() {
     exit 2
 }
 command -v rustc >/dev/null || fail "rustc is needed to build the programs in oracle/"
-for program in wave unwave; do
+for program in program_wave program_unwave; do
     [ -x "target/bin/$program" ] || fail "no program target/bin/$program: build it first (rt check $program)"
 done
 folder=target/compare-waves
@@ -53,7 +53,7 @@ set -- "$kit/lib/ld-linux-x86-64.so.2" --library-path "$kit/lib"
 [ ! -x "$kit/bin/qemu-x86_64" ] || set -- "$kit/bin/qemu-x86_64" "$@"
 differ=0
 echo "wave, where rows are the lines of the waveform but one:"
-"$folder/scenarios" compare "$workers" "$every" "$family" "$folder" "$folder/second" "$folder/ours" "$@" target/bin/wave || differ=1
+"$folder/scenarios" compare "$workers" "$every" "$family" "$folder" "$folder/second" "$folder/ours" "$@" target/bin/program_wave || differ=1
 echo "unwave:"
-"$folder/vcd" compare "$workers" "$seed" "$files" "$folder" "$@" target/bin/unwave || differ=1
+"$folder/vcd" compare "$workers" "$seed" "$files" "$folder" "$@" target/bin/program_unwave || differ=1
 exit "$differ"

@@ -1,7 +1,7 @@
 #!/bin/sh
 # Compares a program with the second program, oracle/lock.rs, on every scenario file that oracle/scenarios.rs makes, byte for byte.
 # usage: tests/compare.sh [-f FAMILY] [-e EVERY] [-w WORKERS] [PROGRAM [WORD...]]
-#   PROGRAM and its words   a path from the repository's root; reads a scenario on standard input and prints its trace; target/bin/runner where none is given. A program
+#   PROGRAM and its words   a path from the repository's root; reads a scenario on standard input and prints its trace; target/bin/program_run where none is given. A program
 #                           under target/bin is run as rt runs it, under the kit's emulator where the machine is not x86-64
 #   -f FAMILY               takes one family of files only, as `scenarios.rs` names them (all)
 #   -e EVERY                takes every EVERY-th file of each family only (1, which is 100,645 files)
@@ -23,7 +23,7 @@ while getopts f:e:w: option; do
     esac
 done
 shift $((OPTIND - 1))
-[ $# -gt 0 ] || set -- target/bin/runner
+[ $# -gt 0 ] || set -- target/bin/program_run
 case $1 in
 */*)
     [ -x "$1" ] || {

@@ -56,7 +56,7 @@ for file in "$root"/crates/*/src/*.rt; do
 done
 without "$@" >"$room/all"
 # What standard input gives is in nobody's hand: of the one function that reads it two equations are missing, and no other.
-read=/crates/intake/src/lib.rt:\ read_chunk:
+read=/crates/program_intake/src/lib.rt:\ read_chunk:
 grep -v -e "$read no equation for what it returns" -e "$read no equation for chunk at exit" "$room/all" >"$room/found"
 if [ "$(wc -l <"$room/found")" -ne 1 ]; then
     echo "contracts: these public functions do not name one answer for every input:" >&2

@@ -1,9 +1,9 @@
 #!/bin/sh
 # What no contract says: that an entry makes its one access by the atomic or the cell, and uses neither flag nor count nor cell beside it.
-# The functions of the table and of `access` are listed with their calls, and with how often each names the flag, the count or the cell, and
+# The functions of the table and of `lock_access` are listed with their calls, and with how often each names the flag, the count or the cell, and
 # compared with the table of the rules (docs/RULES.md, section 5). A value goes from the lock into the access, by itself or through a local
 # of its own name; whatever else is made of it is what the access answered. No other file of `lock`, and none of the crates that it calls
-# beside `access`, may make such a call.
+# beside `lock_access`, may make such a call.
 # usage: tests/one-access.sh [ROOT]
 set -eu
 root=${1:-$(dirname "$0")/..}
@@ -20,7 +20,7 @@ calls() {
         line = $0
         sub(/\/\/.*/, "", line)
         reads += gsub(/(^|[^a-z_])(exc|rc|cell)([^a-z_]|$)/, "&", line)
-        while (match(line, /(access|atomic_u64|atomic_bool|value)::[a-z_]+\(/)) {
+        while (match(line, /(lock_access|atomic_u64|atomic_bool|value)::[a-z_]+\(/)) {
             made = made " " substr(line, RSTART, RLENGTH - 1)
             line = substr(line, RSTART + RLENGTH)
         }
@@ -35,19 +35,19 @@ at_idle:
 at_reading:
 at_take:
 at_writing:
-load_rc: access::load_count 3
-try_rc: access::exchange_count 3
-load_exc: access::load_flag 1
-give_back: access::lower_count 3
-lend: access::borrow_cell 3
-release: access::lower_count 3
+load_rc: lock_access::load_count 3
+try_rc: lock_access::exchange_count 3
+load_exc: lock_access::load_flag 1
+give_back: lock_access::lower_count 3
+lend: lock_access::borrow_cell 3
+release: lock_access::lower_count 3
 drop_read:
-try_exc: access::raise_flag 1
-wait_rc: access::load_count 3
-take: access::take_cell 3
-take_last: access::take_cell 3
-put: access::put_cell 3
-store: access::clear_flag 1
+try_exc: lock_access::raise_flag 1
+wait_rc: lock_access::load_count 3
+take: lock_access::take_cell 3
+take_last: lock_access::take_cell 3
+put: lock_access::put_cell 3
+store: lock_access::clear_flag 1
 drop_write:
 next:
 does:
@@ -66,11 +66,11 @@ cell_told: 3
 END
     {
         calls "$1/crates/lock/src/table.rt"
-        calls "$1/crates/access/src/lib.rt"
+        calls "$1/crates/lock_access/src/lib.rt"
     } >"$room/found"
     diff "$room/right" "$room/found" || true
     # `kept` tells what is in a cell, for the test of soundness, and is no access
-    for crate in lock words scripts judge tidy; do
+    for crate in lock lock_words lock_scripts lock_sound lock_tidy; do
         for file in "$1"/crates/$crate/src/*.rt; do
             [ "$file" = "$1/crates/lock/src/table.rt" ] || calls "$file" | sed 's/ value::kept//' | grep '::' || true
         done
@@ -80,7 +80,7 @@ END
 # wrong FILE OLD NEW: a wrong program is seen to be one
 wrong() {
     rm -rf "$room/copy"
-    for crate in access lock words scripts judge tidy; do
+    for crate in lock_access lock lock_words lock_scripts lock_sound lock_tidy; do
         mkdir -p "$room/copy/crates/$crate"
         cp -r "$root/crates/$crate/src" "$room/copy/crates/$crate"
     done
@@ -94,12 +94,12 @@ if [ -n "$found" ]; then
     echo "$found" >&2
     exit 1
 fi
-wrong lock/src/table.rt 'access::borrow_cell(cell)' 'OnCell { got: value_of(cell), left: cell }'
-wrong lock/src/table.rt 'let x = access::load_flag(lock.exc);' 'let x = access::load_flag(lock.exc); access::load_count(lock.rc);'
+wrong lock/src/table.rt 'lock_access::borrow_cell(cell)' 'OnCell { got: value_of(cell), left: cell }'
+wrong lock/src/table.rt 'let x = lock_access::load_flag(lock.exc);' 'let x = lock_access::load_flag(lock.exc); lock_access::load_count(lock.rc);'
 wrong lock/src/table.rt 'if x\.old {' 'if lock.exc {'
 wrong lock/src/table.rt 'let old = x\.old;' 'let old = rc;'
-wrong access/src/lib.rt 'cell_told(value::borrow(CELL, perm))' 'value::borrow(CELL, perm); OnCell { got: value_of(cell), left: cell }'
-wrong access/src/lib.rt 'atomic_u64::fetch_sub(' 'atomic_u64::swap('
-wrong lock/src/entry.rt 'lock\.finished ||' 'access::load_flag(lock.exc).old ||'
-wrong words/src/lib.rt 'let pred = lock\.pred;' 'let pred = lock.pred; value::take(CELL, perm);'
+wrong lock_access/src/lib.rt 'cell_told(value::borrow(CELL, perm))' 'value::borrow(CELL, perm); OnCell { got: value_of(cell), left: cell }'
+wrong lock_access/src/lib.rt 'atomic_u64::fetch_sub(' 'atomic_u64::swap('
+wrong lock/src/entry.rt 'lock\.finished ||' 'lock_access::load_flag(lock.exc).old ||'
+wrong lock_words/src/lib.rt 'let pred = lock\.pred;' 'let pred = lock.pred; value::take(CELL, perm);'
 echo "one-access: the 12 accesses of the table, each made once; 8 wrong programs seen"

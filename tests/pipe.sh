@@ -1,6 +1,6 @@
 #!/bin/sh
 # Sends scenario files that oracle/scenarios.rs makes through a pipe in pieces of 1 to 9 bytes (oracle/cut.rs), each of which the program reads by
-# itself, and with every CR LF cut in two. runner must print what the second program, oracle/lock.rs, prints for the whole file, and wave what it
+# itself, and with every CR LF cut in two. The program of `run` must print what the second program, oracle/lock.rs, prints for the whole file, and that of `wave` what it
 # prints for the whole file itself, the line of a refusal too, byte for byte.
 # usage: tests/pipe.sh [-e EVERY] [-w WORKERS] [FAMILY=EVERY...]
 #   FAMILY=EVERY   every EVERY-th file of a family, as `scenarios.rs` names them (edges=1 damaged=8 short=40 long=50, which is 3,356 files)
@@ -27,12 +27,12 @@ fail() {
     exit 2
 }
 command -v rustc >/dev/null || fail "rustc is needed to build the programs in oracle/"
-for program in runner wave; do
+for program in program_run program_wave; do
     [ -x "target/bin/$program" ] || fail "no program target/bin/$program: build it first (rt check $program)"
 done
 folder=target/pipe
 rm -rf "$folder"
-mkdir -p "$folder/runner" "$folder/wave"
+mkdir -p "$folder/run" "$folder/wave"
 for name in lock scenarios cut; do rustc -O --edition 2021 "oracle/$name.rs" -o "$folder/$name"; done
 . bench/kit.sh
 set -- "$kit/lib/ld-linux-x86-64.so.2" --library-path "$kit/lib"
@@ -40,7 +40,7 @@ set -- "$kit/lib/ld-linux-x86-64.so.2" --library-path "$kit/lib"
 # The waveform of the whole file. It is started with the word run, as the second program is. The line of a refusal goes behind the waveform.
 cat >"$folder/whole" <<END
 #!/bin/sh
-exec $* target/bin/wave 2>&1
+exec $* target/bin/program_wave 2>&1
 END
 # The waveform of the file in pieces, with the same behind it.
 cat >"$folder/pieces" <<'END'
@@ -65,7 +65,7 @@ compare() {
 for chosen in $families; do
     nth=$((${chosen#*=} * every))
     family=${chosen%=*}
-    compare runner "$nth" "$family" "$folder/lock" "$folder/cut" "$@" target/bin/runner
-    compare wave "$nth" "$family" "$folder/whole" "$folder/pieces" "$folder/cut" "$@" target/bin/wave
+    compare run "$nth" "$family" "$folder/lock" "$folder/cut" "$@" target/bin/program_run
+    compare wave "$nth" "$family" "$folder/whole" "$folder/pieces" "$folder/cut" "$@" target/bin/program_wave
 done
 exit "$differ"

@@ -10,7 +10,7 @@ ghost use lib.ListN.{length, getD};
 use atomic::CellId;
 use atomic::Count;
 use libc::STDIN_FILENO;
-use tally::Tally;
+use replay::Tally;
 
 // Room for a line: no row that can be read has more than 176 bytes.
 const ROOM: usize = 256;
@@ -29,7 +29,7 @@ fn main() {
     let mut line = [0u8; ROOM];
     let mut state = State {
         length: 0,
-        tally: tally::start(),
+        tally: replay::start(),
         at_end: false,
     };
     // A proved loop has to end, and nothing says that the input does: it counts its turns down from a
@@ -39,7 +39,7 @@ fn main() {
         state = read_some(&mut line, state);
         turns -= 1;
     }
-    tally::report(finish(state));
+    replay::report(finish(state));
 }
 
 // Reads once. A read that fails ends the list, and the number of rows then shows it.
@@ -99,16 +99,16 @@ fn push(line: &mut [u8; ROOM], state: State, b: u8) -> State {
 fn end_line(tally: Tally, line: &[u8], n: usize) -> Tally {
     let header = b"width,operation,atomic,permission,value,a,b,number,arm,got,left";
     if n > line.len() {
-        return tally::count(tally, false);
+        return replay::count(tally, false);
     }
     let text = &line[0..n];
     if tally.line > 1 {
-        return tally::count(tally, agrees(text));
+        return replay::count(tally, agrees(text));
     }
     if check::same(text, header) {
-        return tally::pass(tally);
+        return replay::pass(tally);
     }
-    tally::count(tally, false)
+    replay::count(tally, false)
 }
 
 // A last line with no break may be cut short.
@@ -117,7 +117,7 @@ fn finish(state: State) -> Tally {
     if state.length == 0 {
         tally
     } else {
-        tally::count(tally, false)
+        replay::count(tally, false)
     }
 }
 

@@ -5,8 +5,8 @@ use mathlib.Core.List.{List, [], _∷_, _++_}
 use native.Mathlib.Omega.{arith}
 use lib.ListN.{length, set}
 use lib.Seq.{sets}
-use Rattle.text.proofs.Digits.{one-digit, more-digits, short, some, length-last}
-use Rattle.text.proofs.Stores.{last-stored}
+use Rattle.scenario_text.proofs.Digits.{one-digit, more-digits, short, some, length-last}
+use Rattle.scenario_text.proofs.Stores.{last-stored}
 use Rattle.blocks.specs.Binary.{binary}
 
 pub bits-one : (v : ℕ) → v < 2 → binary v ≡ (48 + v) ∷ []

@@ -8,9 +8,9 @@ use native.Mathlib.Omega.{arith}
 use borrow.Author.Tests.{eq-eqb, eqb-true}
 use lib.Dec.{eqb}
 use lib.ListN.{length, length-append, replicate}
-use Rattle.lines.specs.Ascii.{bytes}
-use Rattle.text.specs.Number.{text, digitsTo}
-use Rattle.text.proofs.Digits.{text-short}
+use Rattle.scenario_lines.specs.Ascii.{bytes}
+use Rattle.scenario_text.specs.Number.{text, digitsTo}
+use Rattle.scenario_text.proofs.Digits.{text-short}
 use Rattle.blocks.specs.Binary.{binary}
 use Rattle.blocks.specs.Blocks.{timeLine, excLine, rcLine, opening, dump, front, same, changed, change, timeBytes, changedBytes, changeBytes, frontBytes}
 use Rattle.blocks.specs.Wave.{atFirst, next, timeOf, after, changes, close, waveform}

@@ -8,8 +8,8 @@ use borrow.Author.Tests.{le-leb}
 use lib.Dec.{leb}
 use lib.ListN.{length}
 use lib.Seq.{sets, length-sets}
-use Rattle.text.specs.Put.{Put, stored, placeAfter}
-use Rattle.text.proofs.Stores.{puts}
+use Rattle.scenario_text.specs.Put.{Put, stored, placeAfter}
+use Rattle.scenario_text.proofs.Stores.{puts}
 
 -- where there is room
 pub placed : (o p s : List ℕ) (at r most : ℕ) → at + most ≤ length o → length s ≤ most

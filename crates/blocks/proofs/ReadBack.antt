@@ -5,7 +5,7 @@ use mathlib.Core.Path.{_≡_, refl}
 use mathlib.Core.List.{List, _∷_}
 use native.Mathlib.Omega.{arith}
 use lib.Dec.{eqb}
-use Rattle.text.proofs.Values.{value, all-passed, leads}
+use Rattle.scenario_text.proofs.Values.{value, all-passed, leads}
 use Rattle.blocks.specs.Binary.{binary}
 use Rattle.blocks.specs.ReadBack.{bitsValue, allBits, IsBinary, OfBits, NoLeadingZero}
 

@@ -3,7 +3,7 @@ use Prim.Native.Nat.{ℕ}
 use mathlib.Core.Bool.{Bool, _||_}
 use mathlib.Core.List.{List}
 use lib.Dec.{eqb}
-use Rattle.text.specs.Number.{digitsTo}
+use Rattle.scenario_text.specs.Number.{digitsTo}
 
 abbrev pub isBit : ℕ → Bool
 isBit b = eqb b 48 || eqb b 49

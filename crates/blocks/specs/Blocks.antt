@@ -3,8 +3,8 @@ use Prim.Native.Nat.{ℕ}
 use mathlib.Core.Bool.{Bool, _&&_, cond}
 use mathlib.Core.List.{List, [], _++_}
 use lib.Dec.{eqb}
-use Rattle.lines.specs.Ascii.{bytes}
-use Rattle.text.specs.Number.{text}
+use Rattle.scenario_lines.specs.Ascii.{bytes}
+use Rattle.scenario_text.specs.Number.{text}
 use Rattle.blocks.specs.Binary.{binary}
 use Rattle.blocks.specs.declared.Signals.{Signals}
 

@@ -4,7 +4,7 @@ use mathlib.Core.Path.{_≡_}
 use mathlib.Core.Logic.{_≢_}
 use mathlib.Core.List.{List, [], _∷_, _++_}
 use lib.ListN.{length, replicate}
-use Rattle.lines.specs.Ascii.{bytes}
+use Rattle.scenario_lines.specs.Ascii.{bytes}
 use Rattle.blocks.specs.Binary.{binary}
 use Rattle.blocks.specs.Blocks.{timeLine, excLine, rcLine, front, changed, timeBytes, changedBytes, changeBytes, frontBytes, change}
 use Rattle.blocks.specs.Wave.{atFirst, next, timeOf, counted, after, changes, close, waveform}

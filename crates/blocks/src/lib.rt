@@ -7,9 +7,9 @@ ghost use mathlib.Core.Bool.{cond};
 ghost use mathlib.Core.List.{[], _++_};
 ghost use lib.Dec.{eqb};
 ghost use lib.ListN.{length};
-ghost use Rattle.lines.specs.Ascii.{bytes};
-ghost use Rattle.text.specs.Number.{text};
-ghost use Rattle.text.specs.Put.{Put, stored, placeAfter};
+ghost use Rattle.scenario_lines.specs.Ascii.{bytes};
+ghost use Rattle.scenario_text.specs.Number.{text};
+ghost use Rattle.scenario_text.specs.Put.{Put, stored, placeAfter};
 ghost use Rattle.blocks.specs.Binary.{binary};
 ghost use Rattle.blocks.specs.Wave.{counted, close};
 ghost use Rattle.blocks.specs.Blocks.{timeLine, excLine, rcLine, front, opening, dump, same, changed, change, timeBytes, changedBytes, changeBytes, frontBytes};
@@ -70,7 +70,7 @@ pub fn put_front(out: &mut [u8], at: usize, s: Signals) -> usize
     ensures { λ r. ⌜ r ≡ placeAfter frontBytes (now (out .entry)) at (front s) ⌝ }
     ensures { λ _. ⌜ now (out .exit) ≡ stored frontBytes (now (out .entry)) at (front s) ⌝ }
 {
-    if text::has_room(out.len(), at, FRONT) {
+    if scenario_text::has_room(out.len(), at, FRONT) {
         return write_front(out, at, s);
     }
     at
@@ -80,7 +80,7 @@ pub fn put_time(out: &mut [u8], at: usize, t: u64) -> usize
     ensures { λ r. ⌜ r ≡ placeAfter timeBytes (now (out .entry)) at (timeLine t) ⌝ }
     ensures { λ _. ⌜ now (out .exit) ≡ stored timeBytes (now (out .entry)) at (timeLine t) ⌝ }
 {
-    if text::has_room(out.len(), at, TIME) {
+    if scenario_text::has_room(out.len(), at, TIME) {
         return write_time(out, at, t);
     }
     at
@@ -91,7 +91,7 @@ pub fn put_changed(out: &mut [u8], at: usize, s: Signals, x: Signals) -> usize
     ensures { λ r. ⌜ r ≡ placeAfter changedBytes (now (out .entry)) at (changed s x) ⌝ }
     ensures { λ _. ⌜ now (out .exit) ≡ stored changedBytes (now (out .entry)) at (changed s x) ⌝ }
 {
-    if text::has_room(out.len(), at, CHANGED) {
+    if scenario_text::has_room(out.len(), at, CHANGED) {
         return write_changed(out, at, s, x);
     }
     at
@@ -105,7 +105,7 @@ pub fn put_change(out: &mut [u8], at: usize, t: u64, s: Signals, x: Signals) -> 
     if same(s, x) {
         return at;
     }
-    if text::has_room(out.len(), at, CHANGE) {
+    if scenario_text::has_room(out.len(), at, CHANGE) {
         return write_change(out, at, t, s, x);
     }
     at
@@ -165,14 +165,14 @@ fn write_bytes(out: &mut [u8], at: usize, s: &[u8]) -> usize
     requires { ⌜ at + length (now s) ≤ length (now out) ⌝ }
     ensures { λ r. ⌜ Put (now (out .entry)) at (now (s .entry)) (length (now (s .entry))) r (now (out .exit)) ⌝ }
 {
-    text::put_bytes(out, at, s)
+    scenario_text::put_bytes(out, at, s)
 }
 
 fn write_number(out: &mut [u8], at: usize, v: u64) -> usize
     requires { ⌜ at + 20 ≤ length (now out) ⌝ }
     ensures { λ r. ⌜ Put (now (out .entry)) at (text v) 20 r (now (out .exit)) ⌝ }
 {
-    text::put_number(out, at, v)
+    scenario_text::put_number(out, at, v)
 }
 
 fn write_time(out: &mut [u8], at: usize, t: u64) -> usize

@@ -14,7 +14,7 @@ use cell::value;
 use cell::value::Content;
 use cell::value::Perm;
 use libc::STDIN_FILENO;
-use tally::Tally;
+use replay::Tally;
 
 struct State {
     row: Row,
@@ -27,7 +27,7 @@ fn main() {
     let mut state = State {
         row: start_row(),
         cells: start_cells(),
-        tally: tally::start(),
+        tally: replay::start(),
         at_end: false,
     };
     // A proved loop has to end, and nothing says that the input does: it counts its turns down from a number that no run uses up.
@@ -95,7 +95,7 @@ fn end_line(state: State) -> State {
         return State {
             row: start_row(),
             cells,
-            tally: tally::pass(tally),
+            tally: replay::pass(tally),
             at_end: false,
         };
     }
@@ -106,7 +106,7 @@ fn end_line(state: State) -> State {
     State {
         row: start_row(),
         cells: left,
-        tally: tally::count(tally, after.is_equal),
+        tally: replay::count(tally, after.is_equal),
         at_end: false,
     }
 }
@@ -116,11 +116,11 @@ fn report(state: State) {
     let row = state.row;
     let tally = state.tally;
     let last = if is_started(row) {
-        tally::count(tally, false)
+        replay::count(tally, false)
     } else {
         tally
     };
-    tally::report(last);
+    replay::report(last);
 }
 
 // A row of the list, replayed on the value cell or the InvCell and compared.

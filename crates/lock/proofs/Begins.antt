@@ -21,7 +21,7 @@ use Rattle.machine.specs.declared.Rec.{Rec}
 use Rattle.machine.specs.declared.Refusal.{Refusal}
 use Rattle.machine.specs.declared.Start.the-variants.{Made, Refused}
 use Rattle.machine.proofs.Refusals.{passed}
-use Rattle.scripts.specs.Checks.{fit}
+use Rattle.lock_scripts.specs.Checks.{fit}
 use Rattle.lock.specs.ByValue.{putBack, setupOf}
 use Rattle.lock.specs.Setup.{ownChecks, begunOf}
 use Rattle.lock.proofs.Refusing.{earlier, later, number-beside}

@@ -8,8 +8,8 @@ use lib.Dec.{eqb}
 use lib.ListN.{length}
 use Rattle.machine.specs.Names.{acquireRead, acquireWrite, releaseWrite}
 use Rattle.machine.specs.Tidy.{price, costFrom, cost}
-use Rattle.scripts.proofs.Starts.{capped}
-use Rattle.tidy.specs.Rests.{wordsAt}
+use Rattle.lock_scripts.proofs.Starts.{capped}
+use Rattle.lock_tidy.specs.Rests.{wordsAt}
 
 pub price-most : (o : ℕ) → price o ≤ 3
 price-most o = go (eqb o acquireRead || eqb o acquireWrite) (eqb o releaseWrite)

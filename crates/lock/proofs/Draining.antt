@@ -22,7 +22,7 @@ use Rattle.machine.proofs.Refusals.{passed}
 use Rattle.lock.specs.ByValue.{runChecksOf, runRefusalOf, drainRefusalOf, drainOf}
 use Rattle.lock.specs.Run.{Ready}
 use Rattle.lock.specs.Drain.{stopOf, startOf, goingOf, drainedOf}
-use Rattle.lock.specs.declared.drain.Drained.{Drained}
+use Rattle.lock.specs.declared.drain.DrainReturn.{DrainReturn}
 use Rattle.lock.specs.declared.drain.Going.{Going}
 use Rattle.lock.specs.declared.drain.Stop.{Stop}
 use Rattle.lock.specs.declared.drain.Stop.the-variants.{IdleOrWait, Idle as IdleOnly, End}
@@ -112,19 +112,19 @@ module _ (s : Lent) (count : ℕ) (L : Lock) (recs : List Rec) (why : Refusal) (
   pub ready : why .number ≡ 0 → Ready s L recs
   ready none = none-refused s count L recs (none-of-run s count L (take count recs) (sym number-is ∙ none)) .1
 
-  pub left-alone : (why .number ≡ 0 → ⊥) → _≡_ {A = Drained} (record { refusal = why; n = 0; lock = L; recs = recs }) (drainedOf count recs (drainOf s count L recs))
+  pub left-alone : (why .number ≡ 0 → ⊥) → _≡_ {A = DrainReturn} (record { refusal = why; n = 0; lock = L; recs = recs }) (drainedOf count recs (drainOf s count L recs))
   unfolding drainOf
   left-alone some = rw (ne-eqb _ 0 (λ z. some (number-is ∙ z)), ← is, take-append-drop count recs) refl
 
   pub made : (g : Going) → why .number ≡ 0 → g ≡ goingOf s (startOf s L recs) (drain (scriptsOf s) L (take (length (s .lens)) recs))
-      → _≡_ {A = Drained} (record { refusal = why; n = g .used; lock = g .lock; recs = g .recs }) (drainedOf count recs (drainOf s count L recs))
+      → _≡_ {A = DrainReturn} (record { refusal = why; n = g .used; lock = g .lock; recs = g .recs }) (drainedOf count recs (drainOf s count L recs))
   unfolding drainOf
   made g none e =
       let zero = sym number-is ∙ none in
       let same = none-refused s count L recs (none-of-run s count L (take count recs) zero) .0 in
       let w = drain (scriptsOf s) L (take (length (s .lens)) recs) in
       let used : g .used ≡ length (w .made) = omega (arith, ap (λ (x : Going). x .used) e) in
-      let shape : _≡_ {A = Drained} (record { refusal = why; n = g .used; lock = g .lock; recs = g .recs })
+      let shape : _≡_ {A = DrainReturn} (record { refusal = why; n = g .used; lock = g .lock; recs = g .recs })
       (record { refusal = beside s 0; n = length (w .made); lock = w .lock; recs = w .recs ++ drop (length (s .lens)) recs }) =
       λ j.
       record {

@@ -10,7 +10,7 @@ use package.borrow.Author.Tests.{ltb-false, leb-true, leb-false, eqb-true, lt-lt
 use Rattle.machine.specs.Names.{unsound, mostThreads, longestScript}
 use Rattle.machine.specs.Refusals.{Check, gives, lowest}
 use Rattle.machine.specs.Lists.{Lent, start, scriptsOf, longThread, listChecks, beside}
-use Rattle.scripts.proofs.Starts.{start-later, start-last}
+use Rattle.lock_scripts.proofs.Starts.{start-later, start-last}
 use Rattle.machine.specs.Sound.{sound}
 use Rattle.machine.specs.Run.{entries}
 use Rattle.machine.specs.declared.Lock.{Lock}
@@ -21,7 +21,7 @@ use Rattle.machine.proofs.Find.{first}
 use Rattle.machine.proofs.SoundTest.{sound-tested}
 use Rattle.lock.specs.ByValue.{runChecksOf, runRefusalOf, runOf}
 use Rattle.lock.specs.Run.{ranOf, readyOf, Ready}
-use Rattle.lock.specs.declared.run.Ran.{Ran}
+use Rattle.lock.specs.declared.run.RunReturn.{RunReturn}
 
 -- the two tests of an order are each other's opposite
 pub leb-ltb : (a b : ℕ) → leb a b ≡ not (ltb b a)
@@ -147,7 +147,7 @@ module _ (s : Lent) (count : ℕ) (L : Lock) (recs : List Rec) (schedule : List 
   made n none many = rw (none, none-refused s count L recs none .0, many) refl
 
   pub left : (why : Refusal) → why ≡ beside s (runRefusalOf s count L (take count recs)) → (why .number ≡ 0 → ⊥)
-      → (_≡_ {A = Ran} (record { refusal = why; n = 0; done = 0; lock = L; recs = recs }) (ranOf count recs (runOf s count L recs schedule budget trace)))
+      → (_≡_ {A = RunReturn} (record { refusal = why; n = 0; done = 0; lock = L; recs = recs }) (ranOf count recs (runOf s count L recs schedule budget trace)))
       × (trace ≡ runOf s count L recs schedule budget trace .trace)
   unfolding runOf
   left why is some =

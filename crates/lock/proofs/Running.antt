@@ -25,12 +25,12 @@ use Rattle.machine.proofs.Keep.{bit-le}
 use Rattle.machine.proofs.Accesses.{others-stay}
 use Rattle.machine.proofs.Runs.{run-sound}
 use Rattle.machine.proofs.RunRule.{rows-length}
-use Rattle.scripts.proofs.Starts.{capped}
+use Rattle.lock_scripts.proofs.Starts.{capped}
 use Rattle.lock.specs.Trace.{wordsOfRow}
 use Rattle.lock.specs.Room.{Room}
 use Rattle.lock.specs.Entered.{enteredOf}
 use Rattle.lock.specs.Run.{ranOf, readyOf, Ready}
-use Rattle.lock.specs.declared.run.Ran.{Ran as Returned}
+use Rattle.lock.specs.declared.run.RunReturn.{RunReturn as Returned}
 use Rattle.lock.specs.declared.entered.Entered.{Entered}
 use Rattle.lock.proofs.Room.{room}
 use Rattle.lock.proofs.Stepped.{step-entered, step-none}

@@ -18,7 +18,7 @@ use Rattle.machine.proofs.Moves.{either-way}
 use Rattle.machine.proofs.Steps.{step-sound}
 use Rattle.machine.proofs.RunRule.{step-length}
 use Rattle.machine.proofs.Accesses.{others-stay}
-use Rattle.scripts.proofs.Starts.{capped}
+use Rattle.lock_scripts.proofs.Starts.{capped}
 use Rattle.lock.specs.Room.{Room}
 use Rattle.lock.specs.Entered.{enteredOf}
 use Rattle.lock.specs.declared.entered.Entered.{Entered}

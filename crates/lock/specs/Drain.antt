@@ -14,7 +14,7 @@ use Rattle.machine.specs.declared.Rec.{Rec}
 use Rattle.machine.specs.declared.Place.the-variants.{Idle, WriteWait}
 use Rattle.lock.specs.ByValue.{putBack}
 use Rattle.lock.specs.Run.{Ready}
-use Rattle.lock.specs.declared.drain.Drained.{Drained}
+use Rattle.lock.specs.declared.drain.DrainReturn.{DrainReturn}
 use Rattle.lock.specs.declared.drain.Going.{Going}
 use Rattle.lock.specs.declared.drain.Stop.{Stop}
 use Rattle.lock.specs.declared.drain.Stop.the-variants.{IdleOrWait, Idle as IdleOnly, End}
@@ -46,5 +46,5 @@ goingOf s g w =
     record { lock = w .lock; recs = putBack (length (s .lens)) (g .recs) (w .recs); busy = busy (w .recs); used = g .used + length (w .made) }
 
 -- the array is recs
-abbrev pub drainedOf : ℕ → List Rec → DrainLeft → Drained
+abbrev pub drainedOf : ℕ → List Rec → DrainLeft → DrainReturn
 drainedOf count recs left = record { refusal = left .refusal; n = left .n; lock = left .lock; recs = putBack count recs (left .recs) }

@@ -10,10 +10,10 @@ use Rattle.machine.specs.Run.{run, RunLeft, madeRun}
 use Rattle.machine.specs.declared.Lock.{Lock}
 use Rattle.machine.specs.declared.Rec.{Rec}
 use Rattle.lock.specs.ByValue.{putBack, runOf}
-use Rattle.lock.specs.declared.run.Ran.{Ran}
+use Rattle.lock.specs.declared.run.RunReturn.{RunReturn}
 
 -- the array is recs
-abbrev pub ranOf : ℕ → List Rec → RunLeft → Ran
+abbrev pub ranOf : ℕ → List Rec → RunLeft → RunReturn
 ranOf count recs left = record { refusal = left .refusal; n = left .n; done = left .done; lock = left .lock; recs = putBack count recs (left .recs) }
 
 -- n entries of the schedule, from a state that is not refused; a record for each length

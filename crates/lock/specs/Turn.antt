@@ -20,8 +20,8 @@ abbrev pub gone : Lock → ℕ → Bool
 gone L i = L .finished || not (mayGo (L .mover) i)
 
 -- the operation o is an into_inner that thread i has not begun, and of the other records so many are not Idle
-abbrev pub mustWait : Lock → ℕ → ℕ → ℕ → Bool
-mustWait L i others o = eqb o intoInner && (not (begun (L .mover) i) && ltb 0 others)
+abbrev pub othersAreBusy : Lock → ℕ → ℕ → ℕ → Bool
+othersAreBusy L i others o = eqb o intoInner && (not (begun (L .mover) i) && ltb 0 others)
 
 -- the record r is about to put the value v, which is not permitted
 abbrev pub forbidden : Lock → Rec → ℕ → ℕ → Bool
@@ -34,7 +34,7 @@ turnChecks L r i n others o v =
     gives scriptFinished (leb n (r .at))
     ∷ gives lockGone (gone L i)
     ∷ gives doesNotFit (not (fits (r .place) o))
-    ∷ gives othersBusy (mustWait L i others o)
+    ∷ gives othersBusy (othersAreBusy L i others o)
     ∷ gives notPermitted (forbidden L r o v)
     ∷ []
 

@@ -5,25 +5,25 @@ ghost use lib.ListN.{length, take};
 ghost use Rattle.machine.specs.Lists.{lists, scriptsOf, beside};
 ghost use Rattle.machine.specs.Tidy.{price, cost, bound};
 ghost use Rattle.machine.specs.Drain.{until, sweep, drain};
-ghost use Rattle.tidy.specs.Rests.{wordsAt};
+ghost use Rattle.lock_tidy.specs.Rests.{wordsAt};
 ghost use Rattle.lock.specs.ByValue.{drainRefusalOf, drainOf};
 ghost use Rattle.lock.specs.Run.{Ready};
 ghost use Rattle.lock.specs.Drain.{stopsAt, stopOf, UnderWay, startOf, goingOf, drainedOf};
 use super::entered;
 use super::refused;
 use super::run;
+use lock_words::names::ACQUIRE_READ;
+use lock_words::names::ACQUIRE_WRITE;
+use lock_words::names::NONE;
+use lock_words::names::RELEASE_WRITE;
+use lock_words::names::UNTIDY;
 use machine::Lock;
 use machine::Place;
 use machine::Rec;
 use machine::Refusal;
-use words::names::ACQUIRE_READ;
-use words::names::ACQUIRE_WRITE;
-use words::names::NONE;
-use words::names::RELEASE_WRITE;
-use words::names::UNTIDY;
 
 // What a drain returns: the refusal, whose number is 0 for none; how many entries it made; the lock and the records as they are left.
-pub struct Drained {
+pub struct DrainReturn {
     pub refusal: Refusal,
     pub n: u64,
     pub lock: Lock,
@@ -53,12 +53,12 @@ pub fn drain(
     lock: Lock,
     recs: [Rec; 16],
     count: u64,
-) -> Drained
+) -> DrainReturn
     ensures { λ r. ⌜ r ≡ drainedOf count recs (drainOf (lists (now (lens .entry)) (now (ops .entry)) (now (vals .entry))) count lock recs) ⌝ }
 {
     let why = refusal(lens, ops, vals, lock, recs, count);
     if why.number != NONE {
-        return Drained {
+        return DrainReturn {
             refusal: why,
             n: 0,
             lock,
@@ -68,7 +68,7 @@ pub fn drain(
     let end = drain_ready(lens, ops, vals, lock, recs);
     let lock = end.lock;
     let recs = end.recs;
-    Drained {
+    DrainReturn {
         refusal: why,
         n: end.used,
         lock,
@@ -91,7 +91,7 @@ fn refusal(
     if why.number != NONE {
         return why;
     }
-    if tidy::is_tidy(lens, ops, vals, lock, recs, count) {
+    if lock_tidy::is_tidy(lens, ops, vals, lock, recs, count) {
         return why;
     }
     Refusal {
@@ -156,7 +156,7 @@ fn until(
     ensures { λ r. let s = lists (now (lens .entry)) (now (ops .entry)) (now (vals .entry)) in let n = length (now (lens .entry)) in ⌜ r ≡ goingOf s from (until (stopOf stop (scriptsOf s)) (scriptsOf s) i fuel (from .lock) (take n (from .recs))) ⌝ }
 {
     let len = lens[i];
-    let start = scripts::start_of(lens, i as u64, ops.len() as u64);
+    let start = lock_scripts::start_of(lens, i as u64, ops.len() as u64);
     let mut lock = from.lock;
     let mut recs = from.recs;
     let mut busy = from.busy;
@@ -195,8 +195,9 @@ fn stops(stop: Stop, rec: Rec, len: u64) -> bool
 {
     let place = rec.place;
     match stop {
-        Stop::IdleOrWait => words::is(place, Place::Idle) || words::is(place, Place::WriteWait),
-        Stop::Idle => words::is(place, Place::Idle),
+        Stop::IdleOrWait => lock_words::is(place, Place::Idle)
+            || lock_words::is(place, Place::WriteWait),
+        Stop::Idle => lock_words::is(place, Place::Idle),
         Stop::End => len <= rec.at,
     }
 }
@@ -212,7 +213,7 @@ fn bound(lens: &[u64], ops: &[u64], recs: [Rec; 16]) -> u64
     let mut k = 0;
     while k < lens.len() {
         let rec = recs[k];
-        let start = scripts::start_of(lens, k as u64, ops.len() as u64);
+        let start = lock_scripts::start_of(lens, k as u64, ops.len() as u64);
         sum += cost(ops, start, lens[k], rec.at) + 3;
         k += 1;
     }
@@ -227,7 +228,7 @@ fn cost(ops: &[u64], start: u64, len: u64, at: u64) -> u64
     let mut sum = 0;
     let mut k = at;
     while k < len {
-        sum += price(scripts::word_at(ops, start, k));
+        sum += price(lock_scripts::word_at(ops, start, k));
         k += 1;
     }
     sum

@@ -7,15 +7,15 @@ ghost use Rattle.machine.specs.Step.{busyOf, rowOf};
 ghost use Rattle.lock.specs.Room.{Room};
 ghost use Rattle.lock.specs.Entered.{leftAlone, changed, enteredOf};
 use super::entry;
+use lock_words::names::NO_ACCESS;
+use lock_words::names::NONE;
+use lock_words::names::SCRIPT_FINISHED;
 use machine::Did;
 use machine::Lock;
 use machine::Out;
 use machine::Place;
 use machine::Rec;
 use machine::Row;
-use words::names::NO_ACCESS;
-use words::names::NONE;
-use words::names::SCRIPT_FINISHED;
 
 pub(crate) struct Entered {
     pub(crate) lock: Lock,
@@ -70,7 +70,11 @@ pub(crate) fn busy_of(rec: Rec) -> u64
     ensures { λ r. ⌜ r ≡ busyOf rec ⌝ }
 {
     let place = rec.place;
-    if words::is(place, Place::Idle) { 0 } else { 1 }
+    if lock_words::is(place, Place::Idle) {
+        0
+    } else {
+        1
+    }
 }
 
 // A refused entry leaves lock and record as they are.
@@ -78,8 +82,8 @@ fn left_alone(lock: Lock, rec: Rec, i: u64, busy: u64, k: u64) -> Entered
     ensures { λ r. ⌜ r ≡ leftAlone lock rec i busy k ⌝ }
 {
     Entered {
-        lock: words::remade(lock),
-        rec: words::rec_remade(rec),
+        lock: lock_words::remade(lock),
+        rec: lock_words::rec_remade(rec),
         busy,
         row: row_of(lock, i, NO_ACCESS, k, 0),
     }
@@ -92,8 +96,8 @@ fn changed(d: Did, i: u64, others: u64) -> Entered
     let lock = d.lock;
     let rec = d.rec;
     Entered {
-        lock: words::remade(lock),
-        rec: words::rec_remade(rec),
+        lock: lock_words::remade(lock),
+        rec: lock_words::rec_remade(rec),
         busy: others + busy_of(rec),
         row: row_of(lock, i, d.access, NONE, d.got),
     }
@@ -109,7 +113,7 @@ pub(crate) fn row_of(lock: Lock, thread: u64, access: u64, answer: u64, got: u64
         access,
         answer,
         got,
-        exc: words::bit(lock.exc),
+        exc: lock_words::bit(lock.exc),
         rc: rc.0,
     }
 }

@@ -5,26 +5,26 @@ ghost use mathlib.Core.Bool.{_||_};
 ghost use lib.Dec.{eqb};
 ghost use Rattle.machine.specs.Step.{fits};
 ghost use Rattle.lock.specs.Room.{Room};
-ghost use Rattle.lock.specs.Turn.{gone, mustWait, forbidden, turnRefusal, turnOf};
+ghost use Rattle.lock.specs.Turn.{gone, othersAreBusy, forbidden, turnRefusal, turnOf};
 use super::table;
 use cell::pred;
+use lock_words::names::ACQUIRE_READ;
+use lock_words::names::ACQUIRE_WRITE;
+use lock_words::names::BORROWS;
+use lock_words::names::DOES_NOT_FIT;
+use lock_words::names::DROP_HANDLE;
+use lock_words::names::INTO_INNER;
+use lock_words::names::LOCK_GONE;
+use lock_words::names::NONE;
+use lock_words::names::NOT_PERMITTED;
+use lock_words::names::OTHERS_BUSY;
+use lock_words::names::RELEASE_READ;
+use lock_words::names::RELEASE_WRITE;
+use lock_words::names::SCRIPT_FINISHED;
 use machine::Lock;
 use machine::Out;
 use machine::Place;
 use machine::Rec;
-use words::names::ACQUIRE_READ;
-use words::names::ACQUIRE_WRITE;
-use words::names::BORROWS;
-use words::names::DOES_NOT_FIT;
-use words::names::DROP_HANDLE;
-use words::names::INTO_INNER;
-use words::names::LOCK_GONE;
-use words::names::NONE;
-use words::names::NOT_PERMITTED;
-use words::names::OTHERS_BUSY;
-use words::names::RELEASE_READ;
-use words::names::RELEASE_WRITE;
-use words::names::SCRIPT_FINISHED;
 
 // Thread i has the record rec and a script of the length len, at its script place the operation op with the value v; of the other
 // records so many are not Idle.
@@ -54,7 +54,7 @@ fn refusal(lock: Lock, rec: Rec, i: u64, len: u64, others: u64, op: u64, v: u64)
     if !fits(place, op) {
         return DOES_NOT_FIT;
     }
-    if must_wait(lock, i, others, op) {
+    if others_are_busy(lock, i, others, op) {
         return OTHERS_BUSY;
     }
     if forbidden(lock, rec, op, v) {
@@ -67,14 +67,14 @@ fn gone(lock: Lock, i: u64) -> bool
     ensures { λ r. ⌜ r ≡ gone lock i ⌝ }
 {
     let mover = lock.mover;
-    lock.finished || !words::may_go(mover, i)
+    lock.finished || !lock_words::may_go(mover, i)
 }
 
-fn must_wait(lock: Lock, i: u64, others: u64, op: u64) -> bool
-    ensures { λ r. ⌜ r ≡ mustWait lock i others op ⌝ }
+fn others_are_busy(lock: Lock, i: u64, others: u64, op: u64) -> bool
+    ensures { λ r. ⌜ r ≡ othersAreBusy lock i others op ⌝ }
 {
     let mover = lock.mover;
-    op == INTO_INNER && (!words::begun(mover, i) && 0 < others)
+    op == INTO_INNER && (!lock_words::begun(mover, i) && 0 < others)
 }
 
 fn forbidden(lock: Lock, rec: Rec, op: u64, v: u64) -> bool
@@ -82,7 +82,7 @@ fn forbidden(lock: Lock, rec: Rec, op: u64, v: u64) -> bool
 {
     let place = rec.place;
     let pred = lock.pred;
-    words::is(place, Place::Writing) && (op == RELEASE_WRITE && !pred::permits(pred, v))
+    lock_words::is(place, Place::Writing) && (op == RELEASE_WRITE && !pred::permits(pred, v))
 }
 
 // Which operations fit which place.

@@ -6,13 +6,13 @@ ghost use lib.ListN.{take};
 ghost use Rattle.machine.specs.Names.{mostThreads};
 ghost use Rattle.machine.specs.Lists.{lists, beside};
 ghost use Rattle.lock.specs.ByValue.{runRefusalOf};
-use judge::sound;
+use lock_sound::sound;
+use lock_words::names::MOST_THREADS;
+use lock_words::names::NONE;
+use lock_words::names::UNSOUND;
 use machine::Lock;
 use machine::Rec;
 use machine::Refusal;
-use words::names::MOST_THREADS;
-use words::names::NONE;
-use words::names::UNSOUND;
 
 // 5, 6 and 7 are the lists'. 10 is a thread count of 0 or above 16, or a state that is not sound.
 pub(crate) fn refused(
@@ -25,7 +25,7 @@ pub(crate) fn refused(
 ) -> Refusal
     ensures { λ r. let s = lists (now (lens .entry)) (now (ops .entry)) (now (vals .entry)) in ⌜ r ≡ beside s (runRefusalOf s count lock (take count recs)) ⌝ }
 {
-    let why = scripts::refused(lens, ops, vals, count);
+    let why = lock_scripts::refused(lens, ops, vals, count);
     if why.number != NONE {
         return why;
     }

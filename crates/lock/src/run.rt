@@ -11,17 +11,17 @@ ghost use Rattle.lock.specs.Run.{ranOf, readyOf, Ready, restOf, restTrac
 use super::entered;
 use super::refused;
 use super::trace;
-use super::trace::ROW;
+use lock_words::names::NO_ACCESS;
+use lock_words::names::NO_THREAD;
+use lock_words::names::NONE;
 use machine::Lock;
+use machine::ROW_WORDS;
 use machine::Rec;
 use machine::Refusal;
-use words::names::NO_ACCESS;
-use words::names::NO_THREAD;
-use words::names::NONE;
 
 // What a run returns: the refusal, whose number is 0 for none; n; the number of rows with answer 0; the lock and the records as they
 // are left.
-pub struct Ran {
+pub struct RunReturn {
     pub refusal: Refusal,
     pub n: u64,
     pub done: u64,
@@ -40,13 +40,13 @@ pub fn run(
     schedule: &[u64],
     budget: u64,
     trace: &mut [u64],
-) -> Ran
+) -> RunReturn
     ensures { λ r. ⌜ r ≡ ranOf count recs (runOf (lists (now (lens .entry)) (now (ops .entry)) (now (vals .entry))) count lock recs (now (schedule .entry)) budget (now (trace .entry))) ⌝ }
     ensures { λ _. ⌜ now (trace .exit) ≡ runOf (lists (now (lens .entry)) (now (ops .entry)) (now (vals .entry))) count lock recs (now (schedule .entry)) budget (now (trace .entry)) .trace ⌝ }
 {
     let why = refused::refused(lens, ops, vals, lock, recs, count);
     if why.number != NONE {
-        return Ran {
+        return RunReturn {
             refusal: why,
             n: 0,
             done: 0,
@@ -54,8 +54,8 @@ pub fn run(
             recs,
         };
     }
-    let room = (trace.len() / ROW) as u64;
-    let n = words::smaller(budget, words::smaller(schedule.len() as u64, room));
+    let room = (trace.len() / ROW_WORDS) as u64;
+    let n = lock_words::smaller(budget, lock_words::smaller(schedule.len() as u64, room));
     run_ready(lens, ops, vals, lock, recs, schedule, n, trace)
 }
 
@@ -71,7 +71,7 @@ pub fn run_rest(
     budget: u64,
     used: u64,
     trace: &mut [u64],
-) -> Ran
+) -> RunReturn
     ensures { λ r. ⌜ r ≡ ranOf count recs (restOf (lists (now (lens .entry)) (now (ops .entry)) (now (vals .entry))) count lock recs (now (schedule .entry)) budget used (now (trace .entry))) ⌝ }
     ensures { λ _. ⌜ now (trace .exit) ≡ restTrace (lists (now (lens .entry)) (now (ops .entry)) (now (vals .entry))) count lock recs (now (schedule .entry)) budget used (now (trace .entry)) ⌝ }
 {
@@ -93,8 +93,8 @@ pub fn run_rest(
 fn end_of(rows: u64, most: usize) -> usize
     ensures { λ r. ⌜ r ≡ min (6 * rows) most ⌝ }
 {
-    if rows <= (most / ROW) as u64 {
-        ROW * rows as usize
+    if rows <= (most / ROW_WORDS) as u64 {
+        ROW_WORDS * rows as usize
     } else {
         most
     }
@@ -111,7 +111,7 @@ fn run_ready(
     schedule: &[u64],
     n: u64,
     trace: &mut [u64],
-) -> Ran
+) -> RunReturn
     requires { ⌜ Ready (lists (now lens) (now ops) (now vals)) lock recs ⌝ }
     requires { ⌜ n ≤ length (now schedule) ⌝ }
     requires { ⌜ 6 * n ≤ length (now trace) ⌝ }
@@ -139,11 +139,11 @@ fn run_ready(
             busy = e.busy;
             row = e.row;
         }
-        trace::put_row(trace, ROW * k as usize, row);
+        trace::put_row(trace, ROW_WORDS * k as usize, row);
         done += one_if_zero(row.answer);
         k += 1;
     }
-    Ran {
+    RunReturn {
         refusal: none(),
         n,
         done,
@@ -162,7 +162,7 @@ fn starts_of(lens: &[u64], most: u64) -> [u64; 16]
     let mut t = 0;
     while t < lens.len() {
         starts[t] = sum;
-        sum += words::smaller(lens[t], most - sum);
+        sum += lock_words::smaller(lens[t], most - sum);
         t += 1;
     }
     starts

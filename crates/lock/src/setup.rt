@@ -11,16 +11,16 @@ ghost use Rattle.lock.specs.Setup.{ownChecks, begunOf};
 use atomic::Count;
 use cell::pred;
 use cell::pred::Pred;
+use lock_words::names::BAD_PREDICATE;
+use lock_words::names::FIRST_VALUE;
+use lock_words::names::MOST_THREADS;
+use lock_words::names::NONE;
+use lock_words::names::THREAD_COUNT;
+use lock_words::names::TOP_IS_ZERO;
 use machine::Place;
 use machine::Rec;
 use machine::Refusal;
 use machine::Start;
-use words::names::BAD_PREDICATE;
-use words::names::FIRST_VALUE;
-use words::names::MOST_THREADS;
-use words::names::NONE;
-use words::names::THREAD_COUNT;
-use words::names::TOP_IS_ZERO;
 
 // What setup answers, and the records as it leaves them.
 pub struct Begun {
@@ -44,7 +44,7 @@ pub fn setup(
     let why = refused(pred, top, first, lens, ops, vals, count);
     if why.number == NONE {
         Begun {
-            start: Start::Made(words::unused(pred, top, first)),
+            start: Start::Made(lock_words::unused(pred, top, first)),
             recs: begin(recs, count),
         }
     } else {
@@ -69,7 +69,7 @@ fn refused(
 {
     let k = own_refusal(pred, top, first, lens.len() as u64);
     if k == NONE {
-        scripts::refused(lens, ops, vals, count)
+        lock_scripts::refused(lens, ops, vals, count)
     } else {
         Refusal {
             number: k,
@@ -106,7 +106,7 @@ fn begin(recs: [Rec; 16], n: u64) -> [Rec; 16]
     let mut rs = recs;
     let mut k = 0;
     while k < n {
-        rs[k as usize] = words::plain(0, Place::Idle);
+        rs[k as usize] = lock_words::plain(0, Place::Idle);
         k += 1;
     }
     rs

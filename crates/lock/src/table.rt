@@ -7,31 +7,31 @@ ghost use Rattle.machine.specs.Words.{next};
 ghost use Rattle.machine.specs.Step.{does, loadRc, tryRc, loadExc, backDone, lent, released, tryExc, waitRc, taken, takenLast, putDone, stored, readDropped, writeDropped, act};
 ghost use Rattle.lock.specs.Room.{Room};
 use atomic::Count;
+use lock_words::names::ACQUIRE_READ;
+use lock_words::names::ACQUIRE_WRITE;
+use lock_words::names::BORROWS;
+use lock_words::names::BORROWS_CELL;
+use lock_words::names::DROPS_HANDLE;
+use lock_words::names::GIVES_BACK;
+use lock_words::names::LOADS_EXC;
+use lock_words::names::LOADS_RC;
+use lock_words::names::NO;
+use lock_words::names::NOTHING;
+use lock_words::names::PUTS_CELL;
+use lock_words::names::RELEASE_READ;
+use lock_words::names::RELEASE_WRITE;
+use lock_words::names::RELEASES_RC;
+use lock_words::names::STORES_EXC;
+use lock_words::names::TAKES_CELL;
+use lock_words::names::TRIES_EXC;
+use lock_words::names::TRIES_RC;
+use lock_words::names::WAITS_RC;
+use lock_words::names::YES;
 use machine::Did;
 use machine::Lock;
 use machine::Mover;
 use machine::Place;
 use machine::Rec;
-use words::names::ACQUIRE_READ;
-use words::names::ACQUIRE_WRITE;
-use words::names::BORROWS;
-use words::names::BORROWS_CELL;
-use words::names::DROPS_HANDLE;
-use words::names::GIVES_BACK;
-use words::names::LOADS_EXC;
-use words::names::LOADS_RC;
-use words::names::NO;
-use words::names::NOTHING;
-use words::names::PUTS_CELL;
-use words::names::RELEASE_READ;
-use words::names::RELEASE_WRITE;
-use words::names::RELEASES_RC;
-use words::names::STORES_EXC;
-use words::names::TAKES_CELL;
-use words::names::TRIES_EXC;
-use words::names::TRIES_RC;
-use words::names::WAITS_RC;
-use words::names::YES;
 
 // Thread i has the record rec, the operation op and its value v; the operation fits the place.
 pub(crate) fn act(i: u64, lock: Lock, rec: Rec, op: u64, v: u64) -> Did
@@ -61,7 +61,7 @@ fn at_idle(i: u64, lock: Lock, rec: Rec, op: u64) -> Did
     } else if op == ACQUIRE_WRITE {
         try_exc(lock, rec)
     } else {
-        try_exc(words::with_mover(lock, Mover::By(i)), rec)
+        try_exc(lock_words::with_mover(lock, Mover::By(i)), rec)
     }
 }
 
@@ -108,17 +108,17 @@ fn load_rc(lock: Lock, rec: Rec) -> Did
 {
     let rc = lock.rc;
     let top = lock.top;
-    let x = access::load_count(rc);
+    let x = lock_access::load_count(rc);
     let old = x.old;
     if old.0 < top.0 {
         does(
             lock,
-            words::rec_at(rec.at, Place::ReadTry, old, 0),
+            lock_words::rec_at(rec.at, Place::ReadTry, old, 0),
             LOADS_RC,
             old.0,
         )
     } else {
-        does(lock, words::goes(rec, Place::Idle), LOADS_RC, old.0)
+        does(lock, lock_words::goes(rec, Place::Idle), LOADS_RC, old.0)
     }
 }
 
@@ -128,13 +128,18 @@ fn try_rc(lock: Lock, rec: Rec) -> Did
 {
     let rc = lock.rc;
     let seen = rec.seen;
-    let x = access::exchange_count(rc, seen, Count(seen.0 + 1));
+    let x = lock_access::exchange_count(rc, seen, Count(seen.0 + 1));
     let left = x.left;
-    let after = words::with_rc(lock, left);
+    let after = lock_words::with_rc(lock, left);
     if x.done {
-        does(after, words::goes(rec, Place::ReadCheck), TRIES_RC, YES)
+        does(
+            after,
+            lock_words::goes(rec, Place::ReadCheck),
+            TRIES_RC,
+            YES,
+        )
     } else {
-        does(after, words::goes(rec, Place::Idle), TRIES_RC, NO)
+        does(after, lock_words::goes(rec, Place::Idle), TRIES_RC, NO)
     }
 }
 
@@ -142,9 +147,9 @@ fn load_exc(lock: Lock, rec: Rec) -> Did
     requires { ⌜ rec .at + 1 < 2 ^ 64 ⌝ }
     ensures { λ r. ⌜ r ≡ loadExc lock rec ⌝ }
 {
-    let x = access::load_flag(lock.exc);
+    let x = lock_access::load_flag(lock.exc);
     if x.old {
-        does(lock, words::goes(rec, Place::ReadBack), LOADS_EXC, YES)
+        does(lock, lock_words::goes(rec, Place::ReadBack), LOADS_EXC, YES)
     } else {
         does(lock, next(rec, Place::Reading), LOADS_EXC, NO)
     }
@@ -154,12 +159,12 @@ fn give_back(lock: Lock, rec: Rec) -> Did
     ensures { λ r. ⌜ r ≡ backDone lock rec ⌝ }
 {
     let rc = lock.rc;
-    let x = access::lower_count(rc);
+    let x = lock_access::lower_count(rc);
     let old = x.old;
     let left = x.left;
     does(
-        words::with_rc(lock, left),
-        words::goes(rec, Place::Idle),
+        lock_words::with_rc(lock, left),
+        lock_words::goes(rec, Place::Idle),
         GIVES_BACK,
         old.0,
     )
@@ -170,7 +175,7 @@ fn lend(lock: Lock, rec: Rec) -> Did
     ensures { λ r. ⌜ r ≡ lent lock rec ⌝ }
 {
     let cell = lock.cell;
-    let x = access::borrow_cell(cell);
+    let x = lock_access::borrow_cell(cell);
     does(lock, next(rec, Place::Reading), BORROWS_CELL, x.got)
 }
 
@@ -179,11 +184,11 @@ fn release(lock: Lock, rec: Rec) -> Did
     ensures { λ r. ⌜ r ≡ released lock rec ⌝ }
 {
     let rc = lock.rc;
-    let x = access::lower_count(rc);
+    let x = lock_access::lower_count(rc);
     let old = x.old;
     let left = x.left;
     does(
-        words::with_rc(lock, left),
+        lock_words::with_rc(lock, left),
         next(rec, Place::Idle),
         RELEASES_RC,
         old.0,
@@ -197,7 +202,7 @@ fn drop_read(lock: Lock, rec: Rec) -> Did
 {
     let reads = lock.reads;
     does(
-        words::with_reads(lock, Count(reads.0 + 1)),
+        lock_words::with_reads(lock, Count(reads.0 + 1)),
         next(rec, Place::Idle),
         DROPS_HANDLE,
         NOTHING,
@@ -208,12 +213,17 @@ fn drop_read(lock: Lock, rec: Rec) -> Did
 fn try_exc(lock: Lock, rec: Rec) -> Did
     ensures { λ r. ⌜ r ≡ tryExc lock rec ⌝ }
 {
-    let x = access::raise_flag(lock.exc);
-    let after = words::with_exc(lock, x.left);
+    let x = lock_access::raise_flag(lock.exc);
+    let after = lock_words::with_exc(lock, x.left);
     if x.done {
-        does(after, words::goes(rec, Place::WriteWait), TRIES_EXC, YES)
+        does(
+            after,
+            lock_words::goes(rec, Place::WriteWait),
+            TRIES_EXC,
+            YES,
+        )
     } else {
-        does(after, words::goes(rec, Place::Idle), TRIES_EXC, NO)
+        does(after, lock_words::goes(rec, Place::Idle), TRIES_EXC, NO)
     }
 }
 
@@ -221,12 +231,22 @@ fn wait_rc(lock: Lock, rec: Rec) -> Did
     ensures { λ r. ⌜ r ≡ waitRc lock rec ⌝ }
 {
     let rc = lock.rc;
-    let x = access::load_count(rc);
+    let x = lock_access::load_count(rc);
     let old = x.old;
     if old.0 == 0 {
-        does(lock, words::goes(rec, Place::WriteTake), WAITS_RC, old.0)
+        does(
+            lock,
+            lock_words::goes(rec, Place::WriteTake),
+            WAITS_RC,
+            old.0,
+        )
     } else {
-        does(lock, words::goes(rec, Place::WriteWait), WAITS_RC, old.0)
+        does(
+            lock,
+            lock_words::goes(rec, Place::WriteWait),
+            WAITS_RC,
+            old.0,
+        )
     }
 }
 
@@ -235,11 +255,11 @@ fn take(lock: Lock, rec: Rec) -> Did
     ensures { λ r. ⌜ r ≡ taken lock rec ⌝ }
 {
     let cell = lock.cell;
-    let x = access::take_cell(cell);
+    let x = lock_access::take_cell(cell);
     let left = x.left;
     does(
-        words::with_cell(lock, left),
-        words::rec_at(rec.at + 1, Place::Writing, Count(0), x.got),
+        lock_words::with_cell(lock, left),
+        lock_words::rec_at(rec.at + 1, Place::Writing, Count(0), x.got),
         TAKES_CELL,
         x.got,
     )
@@ -250,10 +270,10 @@ fn take_last(lock: Lock, rec: Rec) -> Did
     ensures { λ r. ⌜ r ≡ takenLast lock rec ⌝ }
 {
     let cell = lock.cell;
-    let x = access::take_cell(cell);
+    let x = lock_access::take_cell(cell);
     let left = x.left;
     does(
-        words::with_end(lock, left),
+        lock_words::with_end(lock, left),
         next(rec, Place::Idle),
         TAKES_CELL,
         x.got,
@@ -265,11 +285,11 @@ fn put(lock: Lock, rec: Rec, v: u64) -> Did
     ensures { λ r. ⌜ r ≡ putDone lock rec v ⌝ }
 {
     let cell = lock.cell;
-    let x = access::put_cell(cell, v);
+    let x = lock_access::put_cell(cell, v);
     let left = x.left;
     does(
-        words::with_cell(lock, left),
-        words::goes(rec, Place::WritePut),
+        lock_words::with_cell(lock, left),
+        lock_words::goes(rec, Place::WritePut),
         PUTS_CELL,
         v,
     )
@@ -279,9 +299,9 @@ fn store(lock: Lock, rec: Rec) -> Did
     requires { ⌜ rec .at + 1 < 2 ^ 64 ⌝ }
     ensures { λ r. ⌜ r ≡ stored lock rec ⌝ }
 {
-    let x = access::clear_flag(lock.exc);
+    let x = lock_access::clear_flag(lock.exc);
     does(
-        words::with_exc(lock, x.left),
+        lock_words::with_exc(lock, x.left),
         next(rec, Place::Idle),
         STORES_EXC,
         NOTHING,
@@ -295,7 +315,7 @@ fn drop_write(lock: Lock, rec: Rec) -> Did
 {
     let writes = lock.writes;
     does(
-        words::with_writes(lock, Count(writes.0 + 1)),
+        lock_words::with_writes(lock, Count(writes.0 + 1)),
         next(rec, Place::Idle),
         DROPS_HANDLE,
         NOTHING,
@@ -307,7 +327,7 @@ fn next(rec: Rec, place: Place) -> Rec
     requires { ⌜ rec .at + 1 < 2 ^ 64 ⌝ }
     ensures { λ r. ⌜ r ≡ next rec place ⌝ }
 {
-    words::plain(rec.at + 1, place)
+    lock_words::plain(rec.at + 1, place)
 }
 
 fn does(lock: Lock, rec: Rec, access: u64, got: u64) -> Did

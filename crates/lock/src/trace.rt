@@ -6,9 +6,6 @@ ghost use lib.Seq.{sets};
 ghost use Rattle.lock.specs.Trace.{wordsOfRow};
 use machine::Row;
 
-// The words of a row.
-pub(crate) const ROW: usize = 6;
-
 pub(crate) fn put_row(trace: &mut [u64], p: usize, row: Row)
     requires { ⌜ p + 6 ≤ length (now trace) ⌝ }
     ensures { λ _. ⌜ now (trace .exit) ≡ sets (now (trace .entry)) p (wordsOfRow row) ⌝ }

@@ -13,22 +13,22 @@ use cell::value;
 use cell::value::Content;
 use libc::STDIN_FILENO;
 use libc::STDOUT_FILENO;
-use lines::Parsed;
-use lines::number;
 use lock::drain;
-use lock::drain::Drained;
+use lock::drain::DrainReturn;
 use lock::run;
-use lock::run::Ran;
+use lock::run::RunReturn;
 use lock::setup;
 use lock::setup::Begun;
+use lock_words::names::UNSOUND;
 use machine::Lock;
 use machine::Mover;
 use machine::Place;
 use machine::Rec;
 use machine::Refusal;
 use machine::Start;
-use tally::Tally;
-use words::names::UNSOUND;
+use replay::Tally;
+use scenario_lines::Parsed;
+use scenario_lines::number;
 
 // What a line that is wrong on purpose is there for.
 const WRONG: u64 = 999;
@@ -65,7 +65,7 @@ fn main() {
 
 fn no_counts() -> Counts {
     Counts {
-        tally: tally::start(),
+        tally: replay::start(),
         unreadable: 0,
         no_such_state: 0,
         found: 0,
@@ -166,7 +166,7 @@ fn on_wrong(counts: Counts, verdict: Verdict) -> Counts {
 fn counted(counts: Counts, is_equal: bool) -> Counts {
     let tally = counts.tally;
     Counts {
-        tally: tally::count(tally, is_equal),
+        tally: replay::count(tally, is_equal),
         unreadable: counts.unreadable,
         no_such_state: counts.no_such_state,
         found: counts.found,
@@ -177,7 +177,7 @@ fn counted(counts: Counts, is_equal: bool) -> Counts {
 fn passed(counts: Counts) -> Counts {
     let tally = counts.tally;
     Counts {
-        tally: tally::pass(tally),
+        tally: replay::pass(tally),
         unreadable: counts.unreadable,
         no_such_state: counts.no_such_state,
         found: counts.found,
@@ -216,7 +216,7 @@ fn report(now: Reading) {
         counts
     };
     let tally = last.tally;
-    tally::report(tally);
+    replay::report(tally);
     print(b"unreadable ", last.unreadable);
     print(b"no such state ", last.no_such_state);
     print(b"wrong on purpose and found ", last.found);
@@ -342,7 +342,7 @@ fn set_up_lent(line: &[u64], p: Parts, given: Given) -> Told {
     let cell = lock.cell;
     let first = value::kept(cell);
     let recs = given.recs;
-    let begun = held_lock::setup(
+    let begun = lock_held::setup(
         pred,
         top,
         first,
@@ -384,7 +384,7 @@ fn ran(line: &[u64], p: Parts, given: Given, trace: &mut [u64]) -> Told {
 fn ran_lent(line: &[u64], p: Parts, given: Given, trace: &mut [u64]) -> Told {
     let lock = given.lock;
     let recs = given.recs;
-    let left = held_lock::run(
+    let left = lock_held::run(
         lens_of(line, p),
         ops_of(line, p),
         vals_of(line, p),
@@ -398,7 +398,7 @@ fn ran_lent(line: &[u64], p: Parts, given: Given, trace: &mut [u64]) -> Told {
     after_run(left)
 }
 
-fn after_run(left: Ran) -> Told {
+fn after_run(left: RunReturn) -> Told {
     let refusal = left.refusal;
     let lock = left.lock;
     let recs = left.recs;
@@ -422,7 +422,7 @@ fn drained(line: &[u64], p: Parts, given: Given) -> Told {
 fn drained_lent(line: &[u64], p: Parts, given: Given) -> Told {
     let lock = given.lock;
     let recs = given.recs;
-    let left = held_lock::drain(
+    let left = lock_held::drain(
         lens_of(line, p),
         ops_of(line, p),
         vals_of(line, p),
@@ -433,7 +433,7 @@ fn drained_lent(line: &[u64], p: Parts, given: Given) -> Told {
     after_drain(left)
 }
 
-fn after_drain(left: Drained) -> Told {
+fn after_drain(left: DrainReturn) -> Told {
     let refusal = left.refusal;
     let lock = left.lock;
     let recs = left.recs;
@@ -645,7 +645,7 @@ fn lock_of(numbers: &[u64], pred: Pred, cell: Content) -> Lock {
 
 // Records that the list lacks are Idle, with 0 for each number.
 fn recs_of(numbers: &[u64]) -> [Rec; 16] {
-    let mut recs = [words::plain(0, Place::Idle); 16];
+    let mut recs = [lock_words::plain(0, Place::Idle); 16];
     let mut i = 0;
     while i < MOST {
         recs[i] = rec_of(rec_part(numbers, i));
@@ -666,7 +666,7 @@ fn rec_part(numbers: &[u64], i: usize) -> &[u64] {
 fn rec_of(numbers: &[u64]) -> Rec {
     let place = place_of(word(numbers, 1));
     let seen = Count(word(numbers, 2));
-    words::rec_at(word(numbers, 0), place, seen, word(numbers, 3))
+    lock_words::rec_at(word(numbers, 0), place, seen, word(numbers, 3))
 }
 
 // A number that names no place is not asked for.
@@ -707,7 +707,7 @@ fn is_record(rec: Rec, numbers: &[u64]) -> bool {
 }
 
 fn is_place(place: Place, number: u64) -> bool {
-    number <= LAST_PLACE && words::is(place, place_of(number))
+    number <= LAST_PLACE && lock_words::is(place, place_of(number))
 }
 
 // A lock as the list has it. A parameter that its predicate has no use for is as it was given.
@@ -721,9 +721,9 @@ fn numbers_of(lock: Lock, given: &[u64]) -> [u64; LOCK] {
     let mover = lock.mover;
     let named = named_by(pred, word(given, 5), word(given, 6));
     [
-        words::bit(lock.exc),
+        lock_words::bit(lock.exc),
         rc.0,
-        words::full(cell),
+        lock_words::full(cell),
         value::kept(cell),
         named[0],
         named[1],
@@ -731,9 +731,9 @@ fn numbers_of(lock: Lock, given: &[u64]) -> [u64; LOCK] {
         top.0,
         reads.0,
         writes.0,
-        words::moving(mover),
+        lock_words::moving(mover),
         moved_by(mover),
-        words::bit(lock.finished),
+        lock_words::bit(lock.finished),
     ]
 }
 

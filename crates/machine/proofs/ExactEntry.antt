@@ -13,7 +13,7 @@ use Rattle.cell.specs.Pred.{permits}
 use Rattle.machine.specs.Names.{releaseWrite, intoInner, lockGone, othersBusy, notPermitted}
 use Rattle.machine.specs.Words.{bit, placeNo, is, mayGo, begun, unbegun}
 use Rattle.machine.specs.Step.{Scripts, sum, busyOf, others, here, opOf, valOf, entryChecks, entryRefusal}
-use Rattle.machine.specs.When.{AtEntry, no-thread, script-finished, lock-finished, moved-by-another, does-not-fit, other-not-idle, not-permitted, EntryExact}
+use Rattle.machine.specs.When.{AtEntry, no-thread, script-finished, lock-finished, moved-by-another, does-not-fit, others-busy, not-permitted, EntryExact}
 use Rattle.machine.specs.declared.Lock.{Lock}
 use Rattle.machine.specs.declared.Rec.{Rec}
 use Rattle.machine.specs.declared.Mover.{Mover}
@@ -107,7 +107,7 @@ module _ (S : Scripts) (L : Lock) (l : List Rec) (i : ℕ) where
       let (o, rest) = and-eq-true-iff _ _ .0 t in
       let (fresh, above) = and-eq-true-iff _ _ .0 rest in
       let (j, other, below, busy) = some-other l i (ltb-true _ _ above) in
-      other-not-idle (eqb-true _ _ o) (begun-by (L .mover) i (not-true _ fresh)) j other below busy
+      others-busy (eqb-true _ _ o) (begun-by (L .mover) i (not-true _ fresh)) j other below busy
 
   permit-means : (is (here l i .place) Writing && (eqb (opOf S l i) releaseWrite && not (permits (L .pred) (valOf S l i)))) ≡ true
       → AtEntry S L l i notPermitted
@@ -132,7 +132,7 @@ module _ (S : Scripts) (L : Lock) (l : List Rec) (i : ℕ) where
   entry-finds k (lock-finished e) = inr (inr (inl (refl, rw e)))
   entry-finds k (moved-by-another t e ne) = inr (inr (inl (refl, rw (e, ne-eqb t i ne, or-true))))
   entry-finds k (does-not-fit never) = inr (inr (inr (inl (refl, ap not (not-so _ (λ e. never (fits-table _ _ .0 e)))))))
-  entry-finds k (other-not-idle o m j ne h p) =
+  entry-finds k (others-busy o m j ne h p) =
       inr (inr (inr (inr (inl (refl, rw (eq-eqb _ _ o, not-begun (L .mover) i m, lt-ltb 0 (others l i) (others-busy l i j ne h p)))))))
   entry-finds k (not-permitted p o e) = inr (inr (inr (inr (inr (inl (refl, rw (p, eq-eqb _ _ o, e)))))))
 

@@ -12,7 +12,7 @@ use Rattle.machine.specs.Names.{intoInner}
 use Rattle.machine.specs.Words.{bit, is, mayGo, goes, next, unbegun, withExc}
 use Rattle.machine.specs.Step.{Scripts, act, fits, busyOf, busy, others, here, opOf, answer, step, settle, claimed, excDone, waitDone, takenLast}
 use Rattle.machine.specs.Sound.{tally, Sound}
-use Rattle.machine.specs.When.{AtEntry, no-thread, script-finished, lock-finished, moved-by-another, does-not-fit, other-not-idle, not-permitted}
+use Rattle.machine.specs.When.{AtEntry, no-thread, script-finished, lock-finished, moved-by-another, does-not-fit, others-busy, not-permitted}
 use Rattle.machine.specs.Run.{run}
 use Rattle.machine.specs.Ends.{IntoInnerEnds}
 use Rattle.machine.specs.declared.Lock.{Lock}
@@ -63,7 +63,7 @@ module _ (S : Scripts) (L : Lock) (l : List Rec) (i : ℕ) (h : Ready S L l i) w
   nothing fit k (lock-finished e) = true≢false (sym e ∙ h .going)
   nothing fit k (moved-by-another t e ne) = ne (eqb-true t i (ap (λ (m : Mover). mayGo m i) (sym e) ∙ h .mine))
   nothing fit k (does-not-fit never) = never (fits-table _ _ .0 (ap (λ (o : ℕ). fits (here l i .place) o) (h .into) ∙ fit))
-  nothing fit k (other-not-idle o m j ne q busy) = busy (idle-of (here l j) (omega (arith, sum-other (λ k r. busyOf r) l i j unbegun ne q, h .calm)))
+  nothing fit k (others-busy o m j ne q busy) = busy (idle-of (here l j) (omega (arith, sum-other (λ k r. busyOf r) l i j unbegun ne q, h .calm)))
   nothing fit k (not-permitted p o e) = omega (arith, h .into)
 
   -- its entry is what the table does

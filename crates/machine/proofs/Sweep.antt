@@ -14,7 +14,7 @@ use Rattle.machine.specs.Names.{dropHandle}
 use Rattle.machine.specs.Words.{moving, unbegun}
 use Rattle.machine.specs.Step.{Scripts, fits, opOf, entryRefusal, answer, step, here, sum}
 use Rattle.machine.specs.Sound.{Sound}
-use Rattle.machine.specs.When.{AtEntry, no-thread, script-finished, lock-finished, moved-by-another, does-not-fit, other-not-idle, not-permitted}
+use Rattle.machine.specs.When.{AtEntry, no-thread, script-finished, lock-finished, moved-by-another, does-not-fit, others-busy, not-permitted}
 use Rattle.machine.specs.Tidy.{Tidy}
 use Rattle.machine.specs.Drain.{Until, stops, steps, Turn, skips, works, Turns, over, turn, Went, stays, after, until, sweep}
 use Rattle.machine.specs.declared.Did.{Did}
@@ -49,7 +49,7 @@ module _ (S : Scripts) (L : Lock) (l : List Rec) (i : ℕ) (b : Base S L l) (val
   nothing k (lock-finished e) = true≢false (sym e ∙ b .tidy .clean .1)
   nothing k (moved-by-another t e ne) = omega (arith, b .tidy .clean, ap moving e)
   nothing k (does-not-fit never) = never (fits-table _ _ .0 fit)
-  nothing k (other-not-idle o m j ne h p) = omega (arith, small)
+  nothing k (others-busy o m j ne h p) = omega (arith, small)
   nothing k (not-permitted p o e) = true≢false (sym (rest-permits _ _ _ _ (rw p at (b .tidy .rest i valid))) ∙ e)
 
   pub unrefused : entryRefusal S L l i ≡ 0

@@ -30,7 +30,7 @@ pub data AtEntry (S : Scripts) (L : Lock) (l : List Rec) (i : ℕ) : ℕ → Typ
   moved-by-another : (t : ℕ) → L .mover ≡ By t → t ≢ i → AtEntry S L l i lockGone
   does-not-fit : (Fits (here l i .place) (opOf S l i) → ⊥) → AtEntry S L l i doesNotFit
   -- into_inner not yet begun, and another record not Idle
-  other-not-idle : opOf S l i ≡ intoInner → L .mover ≢ By i → (j : ℕ) → j ≢ i → j < length l → here l j .place ≢ Idle → AtEntry S L l i othersBusy
+  others-busy : opOf S l i ≡ intoInner → L .mover ≢ By i → (j : ℕ) → j ≢ i → j < length l → here l j .place ≢ Idle → AtEntry S L l i othersBusy
   not-permitted : here l i .place ≡ Writing → opOf S l i ≡ releaseWrite → permits (L .pred) (valOf S l i) ≡ false → AtEntry S L l i notPermitted
 
 -- of what is lent, with so many records

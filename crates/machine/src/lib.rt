@@ -67,6 +67,9 @@ pub enum Out {
     Yes(Did),
 }
 
+// The words of a row.
+pub const ROW_WORDS: usize = 6;
+
 // A row of the trace.
 pub struct Row {
     pub thread: u64,

@@ -1,10 +1,10 @@
 -- A file read by bytes comes to the reading that it comes to by lines. Assumes nothing.
 use mathlib.Core.Path.{sym, ap, _∙_}
 use mathlib.Core.List.{_++_}
-use Rattle.lines.specs.Bytes.{Reader, finish}
-use Rattle.lines.specs.Laws.{LongAlike}
-use Rattle.lines.proofs.Judged.{long-is-broken}
-use Rattle.lines.proofs.Laws.{by-bytes, any-cut}
+use Rattle.scenario_lines.specs.Bytes.{Reader, finish}
+use Rattle.scenario_lines.specs.Laws.{LongAlike}
+use Rattle.scenario_lines.proofs.Judged.{long-is-broken}
+use Rattle.scenario_lines.proofs.Laws.{by-bytes, any-cut}
 use Rattle.scenario.specs.Printed.{Reading, start, next, ended, readingOf}
 use Rattle.scenario.specs.ByBytes.{unread, ReadByBytes, CutAnywhere}
 

@@ -6,11 +6,11 @@ use Rattle.machine.specs.Step.{act, fits, sum, entryRefusal, answer, step}
 use Rattle.machine.specs.Lists.{total, find}
 use Rattle.machine.specs.Setup.{setupRefusal}
 use Rattle.machine.specs.Run.{run}
-use Rattle.text.specs.Number.{digitsTo, text}
-use Rattle.text.specs.Lines.{fields, lastField, header, rowText, refusal}
-use Rattle.lines.specs.Lines.{lines, across}
-use Rattle.lines.specs.Number.{digits, plainly, decimal, number}
-use Rattle.lines.specs.Judge.{equal, clean, fields as split, kinds, judge}
+use Rattle.scenario_text.specs.Number.{digitsTo, text}
+use Rattle.scenario_text.specs.Lines.{fields, lastField, header, rowText, refusal}
+use Rattle.scenario_lines.specs.Lines.{lines, across}
+use Rattle.scenario_lines.specs.Number.{digits, plainly, decimal, number}
+use Rattle.scenario_lines.specs.Judge.{equal, clean, fields as split, kinds, judge}
 use Rattle.scenario.specs.Scenario.{taken}
 use Rattle.scenario.specs.Refused.{refusalOf}
 use Rattle.scenario.specs.Printed.{next, ended, rowsText, output, readingOf, printed}

@@ -5,7 +5,7 @@ use mathlib.Core.List.{List, _++_}
 use native.Mathlib.Nat.{zero-add, mod-eq-of-lt}
 use native.Mathlib.Omega.{arith}
 use borrow.Author.Tests.{ne-eqb}
-use Rattle.text.specs.Lines.{rowText, refusal}
+use Rattle.scenario_text.specs.Lines.{rowText, refusal}
 use Rattle.scenario.specs.Printed.{rowsText}
 use Rattle.scenario.specs.Numbered.{RowsNumbered, LinesNumbered, LineRefused, AllTaken}
 use Rattle.scenario.proofs.Named.{from-start, taken-all}

@@ -7,7 +7,7 @@ use lib.ListN.{length}
 use Rattle.machine.specs.Lists.{scriptsOf}
 use Rattle.machine.specs.declared.Row.{Row}
 use Rattle.machine.proofs.RunLaws.{cutting}
-use Rattle.text.specs.Lines.{rowText}
+use Rattle.scenario_text.specs.Lines.{rowText}
 use Rattle.scenario.specs.Names.{countedTo}
 use Rattle.scenario.specs.Printed.{rowsText}
 use Rattle.scenario.specs.Pieces.{TwoPieces, CountedRows, OnePiece}

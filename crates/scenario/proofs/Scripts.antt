@@ -11,8 +11,8 @@ use lib.Dec.{eqb}
 use lib.ListN.{length, getD, set, replicate, length-append, List·getD-map}
 use Rattle.machine.specs.Lists.{Lent, lists}
 use Rattle.machine.specs.ListLaws.{Op, lentFor}
-use Rattle.lines.specs.declared.Line.{Line}
-use Rattle.lines.specs.declared.Line.the-variants.{Broken, Header, BadNumber, Lock, Pred as PredLine, Op as OpLine, Run as RunLine, NoKind}
+use Rattle.scenario_lines.specs.declared.Line.{Line}
+use Rattle.scenario_lines.specs.declared.Line.the-variants.{Broken, Header, BadNumber, Lock, Pred as PredLine, Op as OpLine, Run as RunLine, NoKind}
 use Rattle.scenario.specs.Scenario.{lentWith}
 use Rattle.scenario.specs.Named.{scriptOf, scriptsFrom, entriesOf}
 

@@ -16,10 +16,10 @@ use Rattle.machine.specs.Lists.{Lent, wrong, listChecks}
 use Rattle.machine.specs.Setup.{setupChecks, setupRefusal}
 use Rattle.machine.proofs.Refusals.{passed}
 use Rattle.scenario.specs.Scenario.{Scenario, lentWith, withOp, taken}
-use Rattle.lines.specs.Lines.{lines, across}
-use Rattle.lines.specs.Judge.{judge}
-use Rattle.lines.specs.declared.Line.{Line}
-use Rattle.lines.specs.declared.Line.the-variants.{Broken, Header, BadNumber, Lock, Pred as PredLine, Op, Run, NoKind}
+use Rattle.scenario_lines.specs.Lines.{lines, across}
+use Rattle.scenario_lines.specs.Judge.{judge}
+use Rattle.scenario_lines.specs.declared.Line.{Line}
+use Rattle.scenario_lines.specs.declared.Line.the-variants.{Broken, Header, BadNumber, Lock, Pred as PredLine, Op, Run, NoKind}
 use Rattle.scenario.specs.declared.Stage.the-variants.{Ops as AtOps}
 use Rattle.scenario.specs.Printed.{Reading, afterLine, next, start}
 use Rattle.scenario.specs.Refused.{stageNo, at, misplaced, asked, setupNumber, refusalOf}

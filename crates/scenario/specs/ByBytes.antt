@@ -3,7 +3,7 @@ use Prim.Native.Nat.{ℕ}
 use mathlib.Core.Path.{_≡_}
 use mathlib.Core.Bool.{false}
 use mathlib.Core.List.{List, [], _++_}
-use Rattle.lines.specs.Bytes.{Reader, reader, feed, finish}
+use Rattle.scenario_lines.specs.Bytes.{Reader, reader, feed, finish}
 use Rattle.scenario.specs.Printed.{Reading, start, next, ended, readingOf}
 
 -- the reader before the first byte

@@ -4,8 +4,8 @@ use Prim.Native.String.{String}
 use mathlib.Core.Path.{_≡_}
 use mathlib.Core.List.{List, [], _∷_, _++_}
 use lib.ListN.{length, replicate}
-use Rattle.lines.specs.Ascii.{bytes}
-use Rattle.lines.specs.Edges.{wide}
+use Rattle.scenario_lines.specs.Ascii.{bytes}
+use Rattle.scenario_lines.specs.Edges.{wide}
 use Rattle.scenario.specs.Printed.{printed}
 
 -- lines, each with its break
@@ -84,7 +84,7 @@ FirstLine =
     × Prints (file ("" ∷ [])) ("refused,31,1" ∷ [])
     × Prints (file ("kind,a,b," ∷ [])) ("refused,32,1" ∷ [])
 
--- 80 bytes before the break are allowed, 81 are not: a line of that width is that of `lines`
+-- 80 bytes before the break are allowed, 81 are not: a line of that width is that of `scenario_lines`
 abbrev pub Longest : Type 0
 Longest =
     (length (wide 74) ≡ 80)

@@ -14,11 +14,11 @@ use Rattle.machine.specs.Run.{run}
 use Rattle.machine.specs.Setup.{fresh}
 use Rattle.machine.specs.Words.{unused}
 use Rattle.machine.specs.declared.Row.{Row}
-use Rattle.text.specs.Lines.{header}
-use Rattle.lines.specs.Lines.{lines, whole}
-use Rattle.lines.specs.Judge.{judge}
-use Rattle.lines.specs.declared.Line.{Line}
-use Rattle.lines.specs.declared.Line.the-variants.{Broken, Header, BadNumber, Lock, Pred as PredLine, Op as OpLine, Run as RunLine, NoKind}
+use Rattle.scenario_text.specs.Lines.{header}
+use Rattle.scenario_lines.specs.Lines.{lines, whole}
+use Rattle.scenario_lines.specs.Judge.{judge}
+use Rattle.scenario_lines.specs.declared.Line.{Line}
+use Rattle.scenario_lines.specs.declared.Line.the-variants.{Broken, Header, BadNumber, Lock, Pred as PredLine, Op as OpLine, Run as RunLine, NoKind}
 use Rattle.scenario.specs.declared.Stage.{Stage}
 use Rattle.scenario.specs.declared.Stage.the-variants.{Header as AtHeader, Lock as AtLock, Pred as AtPred, Ops as AtOps, Runs as AtRuns}
 use Rattle.scenario.specs.Scenario.{Scenario}

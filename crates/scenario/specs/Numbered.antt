@@ -5,9 +5,9 @@ use mathlib.Core.Logic.{_≢_}
 use mathlib.Core.List.{List, [], _∷_, _++_}
 use lib.ListN.{length, getD}
 use Rattle.machine.specs.declared.Row.{Row}
-use Rattle.text.specs.Lines.{rowText, refusal}
-use Rattle.lines.specs.Lines.{lines, whole}
-use Rattle.lines.specs.Judge.{judge}
+use Rattle.scenario_text.specs.Lines.{rowText, refusal}
+use Rattle.scenario_lines.specs.Lines.{lines, whole}
+use Rattle.scenario_lines.specs.Judge.{judge}
 use Rattle.scenario.specs.Refused.{refusalOf}
 use Rattle.scenario.specs.Printed.{Reading, start, next, rowsText, refusalText}
 use Rattle.scenario.specs.Named.{takenOf}

@@ -6,7 +6,7 @@ use lib.Dec.{eqb, ltb}
 use Rattle.cell.specs.Pred.{permits, good, ofKind}
 use Rattle.cell.specs.declared.pred.Pred.{Pred}
 use Rattle.machine.specs.Names.{threadCount, topIsZero, badPredicate, firstValue}
-use Rattle.lines.specs.declared.Line.the-variants.{Pred as PredLine}
+use Rattle.scenario_lines.specs.declared.Line.the-variants.{Pred as PredLine}
 use Rattle.scenario.specs.Scenario.{Scenario, predOf, withPred}
 use Rattle.scenario.specs.Refused.{asked, setupNumber}
 

@@ -8,9 +8,9 @@ use Rattle.machine.specs.Lists.{scriptsOf}
 use Rattle.machine.specs.Setup.{fresh}
 use Rattle.machine.specs.Run.{run}
 use Rattle.machine.specs.declared.Row.{Row}
-use Rattle.text.specs.Lines.{header, rowText, refusal}
-use Rattle.lines.specs.Lines.{whole}
-use Rattle.lines.specs.Judge.{judge}
+use Rattle.scenario_text.specs.Lines.{header, rowText, refusal}
+use Rattle.scenario_lines.specs.Lines.{whole}
+use Rattle.scenario_lines.specs.Judge.{judge}
 use Rattle.scenario.specs.Names.{wrongLine, countedTo}
 use Rattle.scenario.specs.Scenario.{Scenario, nothing, taken}
 use Rattle.scenario.specs.Refused.{stageNo, refusalOf}

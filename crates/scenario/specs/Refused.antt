@@ -3,8 +3,8 @@ use Prim.Native.Nat.{ℕ}
 use mathlib.Core.Bool.{Bool, true, false, _||_, not, cond}
 use lib.Dec.{ltb, leb, eqb}
 use Rattle.machine.specs.Setup.{setupRefusal}
-use Rattle.lines.specs.declared.Line.{Line}
-use Rattle.lines.specs.declared.Line.the-variants.{Broken, Header, BadNumber, Lock, Pred as PredLine, Op, Run, NoKind}
+use Rattle.scenario_lines.specs.declared.Line.{Line}
+use Rattle.scenario_lines.specs.declared.Line.the-variants.{Broken, Header, BadNumber, Lock, Pred as PredLine, Op, Run, NoKind}
 use Rattle.scenario.specs.Names.{brokenLine, wrongLine}
 use Rattle.scenario.specs.Scenario.{Scenario, taken}
 use Rattle.scenario.specs.declared.Stage.{Stage}

@@ -8,8 +8,8 @@ use Rattle.cell.specs.declared.pred.Pred.the-variants.{Any, Parity}
 use Rattle.cell.specs.declared.pred.Named.{Named}
 use Rattle.cell.specs.declared.pred.Named.the-variants.{Known, Unknown}
 use Rattle.machine.specs.Lists.{Lent, lists}
-use Rattle.lines.specs.declared.Line.{Line}
-use Rattle.lines.specs.declared.Line.the-variants.{Broken, Header, BadNumber, Lock, Pred as PredLine, Op, Run, NoKind}
+use Rattle.scenario_lines.specs.declared.Line.{Line}
+use Rattle.scenario_lines.specs.declared.Line.the-variants.{Broken, Header, BadNumber, Lock, Pred as PredLine, Op, Run, NoKind}
 use Rattle.scenario.specs.declared.Stage.{Stage}
 use Rattle.scenario.specs.declared.Stage.the-variants.{Header as AtHeader, Lock as AtLock, Pred as AtPred, Ops as AtOps, Runs as AtRuns}
 

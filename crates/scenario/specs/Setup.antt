@@ -9,9 +9,9 @@ use lib.ListN.{getD}
 use Rattle.cell.specs.declared.pred.Pred.{Pred}
 use Rattle.machine.specs.Names.{badPredicate, firstValue, scriptTooLong, wrongCode, mostThreads, longestScript}
 use Rattle.machine.specs.Lists.{wrong}
-use Rattle.lines.specs.Lines.{whole}
-use Rattle.lines.specs.declared.Line.{Line}
-use Rattle.lines.specs.declared.Line.the-variants.{Pred as PredLine}
+use Rattle.scenario_lines.specs.Lines.{whole}
+use Rattle.scenario_lines.specs.declared.Line.{Line}
+use Rattle.scenario_lines.specs.declared.Line.the-variants.{Pred as PredLine}
 use Rattle.scenario.specs.Scenario.{Scenario, withPred, withOp, taken}
 use Rattle.scenario.specs.Refused.{stageNo, asked, setupNumber, refusalOf}
 use Rattle.scenario.specs.Printed.{start, next}

@@ -1,4 +1,4 @@
-// Replays the list on standard input through the crate feed, and prints how many files agree.
+// Replays the list on standard input through the crate scenario_read, and prints how many files agree.
 //
 // oracle/scenarios.rs makes the list and says how it is written: each line is a scenario file with what the second program prints for it.
 // A line that cannot be read as such counts as different, so that nothing of the list is passed over, and the number of rows shows where
@@ -6,10 +6,10 @@
 ghost use Prim.Native.Nat.{_<_, _≤_};
 ghost use lib.ListN.{length};
 use cell::pred::Pred;
-use feed::Fed;
 use libc::STDIN_FILENO;
-use tally::Tally;
-use text::ROW_WORDS;
+use machine::ROW_WORDS;
+use replay::Tally;
+use scenario_read::Fed;
 
 // How the next byte of a line is read.
 const PLAIN: u64 = 0;
@@ -49,7 +49,7 @@ fn main() {
 fn read_list(file: &mut [u8], text: &mut [u8]) {
     let mut state = State {
         line: start(),
-        tally: tally::start(),
+        tally: replay::start(),
         at_end: false,
     };
     // A proved loop has to end, and nothing says that the input does: it counts its turns down from a number that no run uses up.
@@ -113,7 +113,7 @@ fn push(state: State, b: u8, file: &mut [u8], text: &mut [u8]) -> State {
         let same = replay(line, file, text);
         return State {
             line: start(),
-            tally: tally::count(tally, same),
+            tally: replay::count(tally, same),
             at_end: false,
         };
     }
@@ -224,11 +224,11 @@ fn report(state: State) {
     let line = state.line;
     let tally = state.tally;
     let last = if line.barred || 0 < line.in_file {
-        tally::count(tally, false)
+        replay::count(tally, false)
     } else {
         tally
     };
-    tally::report(last);
+    replay::report(last);
 }
 
 // What the file prints is what stands behind the bar.
@@ -237,8 +237,8 @@ fn replay(line: Line, file: &[u8], text: &[u8]) -> bool {
         return false;
     }
     is_printed(
-        chunks::front(file, line.in_file),
-        chunks::front(text, line.in_text),
+        program_chunks::front(file, line.in_file),
+        program_chunks::front(text, line.in_text),
     )
 }
 
@@ -268,10 +268,10 @@ fn is_printed_cut(file: &[u8], text: &[u8], more: usize) -> bool {
         &mut rows,
     );
     let state = fed.state;
-    let stop = feed::stopped(state, rows.len(), fed.at);
-    let at = text::put_header(&mut out, 0);
-    let end = prints::put_more(0, &rows, fed.at / ROW_WORDS, stop, &mut out, at);
-    feed::ends(stop) && is_same(&out, end, text)
+    let stop = scenario_read::stopped(state, rows.len(), fed.at);
+    let at = scenario_text::put_header(&mut out, 0);
+    let end = scenario_prints::put_more(0, &rows, fed.at / ROW_WORDS, stop, &mut out, at);
+    scenario_read::ends(stop) && is_same(&out, end, text)
 }
 
 // Chunks of one byte more than `more`, then the end. They are handed over after a refusal too.
@@ -300,8 +300,8 @@ fn hand_all(
     rows: &mut [u64],
 ) -> Fed {
     let mut fed = Fed {
-        state: feed::fresh(),
-        standing: pieces::at_first(Pred::Any, 1, 0),
+        state: scenario_read::fresh(),
+        standing: scenario_pieces::at_first(Pred::Any, 1, 0),
         from: 0,
         at: 0,
     };
@@ -359,7 +359,7 @@ fn hand(
 ) -> Fed {
     let state = fed.state;
     let standing = fed.standing;
-    feed::feed(
+    scenario_read::feed(
         state,
         standing,
         line,

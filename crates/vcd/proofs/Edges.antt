@@ -1,7 +1,7 @@
 -- Case A as a waveform, and the edges: each is computed. Assumes nothing.
 use mathlib.Core.Path.{refl}
-use Rattle.lines.specs.Number.{more}
-use Rattle.text.specs.Number.{digitsTo, text}
+use Rattle.scenario_lines.specs.Number.{more}
+use Rattle.scenario_text.specs.Number.{digitsTo, text}
 use Rattle.blocks.specs.Binary.{binary}
 use Rattle.blocks.specs.Blocks.{timeLine, excLine, rcLine, opening, dump, front, changed, change}
 use Rattle.blocks.specs.Wave.{after, changes, close, waveform}

@@ -5,8 +5,8 @@ use mathlib.Core.List.{List, [], _∷_, _++_}
 use native.Mathlib.Omega.{arith}
 use lib.ListN.{length, set, replicate}
 use lib.Seq.{sets}
-use Rattle.text.specs.Put.{Put}
-use Rattle.text.proofs.Stores.{puts, both}
+use Rattle.scenario_text.specs.Put.{Put}
+use Rattle.scenario_text.proofs.Stores.{puts, both}
 use Rattle.blocks.specs.declared.Signals.{Signals}
 use Rattle.vcd.specs.Trace.{words}
 

@@ -9,8 +9,8 @@ use borrow.Author.Tests.{lt-ltb, le-ltb, eq-eqb, ne-eqb, eqb-true}
 use lib.Dec.{eqb}
 use lib.ListN.{length, getD, drop, drop-of-length-le}
 use lib.Seq.{drop-cons, drop-length}
-use Rattle.lines.specs.Number.{more}
-use Rattle.lines.specs.declared.Parsed.the-variants.{No, Is}
+use Rattle.scenario_lines.specs.Number.{more}
+use Rattle.scenario_lines.specs.declared.Parsed.the-variants.{No, Is}
 use Rattle.blocks.specs.declared.Signals.{Signals}
 use Rattle.blocks.specs.Binary.{isBit}
 use Rattle.vcd.specs.Read.{digitsAhead, bitsAhead, rcAhead, signalsAhead, starts}

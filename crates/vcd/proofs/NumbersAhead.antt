@@ -5,10 +5,10 @@ use mathlib.Core.Path.{_≡_, refl, _∙_}
 use mathlib.Core.List.{List, _∷_, _++_}
 use native.Mathlib.Omega.{arith}
 use borrow.Author.Tests.{lt-ltb, le-leb}
-use Rattle.lines.specs.Number.{more}
-use Rattle.lines.specs.declared.Parsed.the-variants.{Is}
-use Rattle.text.specs.Number.{text}
-use Rattle.text.proofs.Values.{taken}
+use Rattle.scenario_lines.specs.Number.{more}
+use Rattle.scenario_lines.specs.declared.Parsed.the-variants.{Is}
+use Rattle.scenario_text.specs.Number.{text}
+use Rattle.scenario_text.proofs.Values.{taken}
 use Rattle.blocks.specs.Binary.{isBit, binary}
 use Rattle.vcd.specs.Read.{digitsAhead, bitsAhead}
 

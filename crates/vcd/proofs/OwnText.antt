@@ -9,8 +9,8 @@ use borrow.Author.Tests.{lt-ltb, le-leb, eq-eqb, eqb-true}
 use lib.Dec.{T, ltb, leb, eqb}
 use lib.ListN.{length, getD, drop}
 use lib.Seq.{drop-append-seam}
-use Rattle.lines.specs.Ascii.{bytes}
-use Rattle.text.specs.Number.{text}
+use Rattle.scenario_lines.specs.Ascii.{bytes}
+use Rattle.scenario_text.specs.Number.{text}
 use Rattle.blocks.specs.Binary.{isBit, binary}
 use Rattle.blocks.specs.Blocks.{timeLine, excLine, rcLine, opening, dump, front, same, changed}
 use Rattle.blocks.specs.declared.Signals.{Signals}

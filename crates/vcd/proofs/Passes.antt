@@ -7,8 +7,8 @@ use native.Mathlib.Omega.{arith}
 use lib.Dec.{eqb}
 use lib.ListN.{length, drop, replicate, length-drop, length-append, length-replicate}
 use lib.Seq.{sets, drop-drop}
-use Rattle.text.specs.Put.{Put}
-use Rattle.text.proofs.Stores.{sets-append}
+use Rattle.scenario_text.specs.Put.{Put}
+use Rattle.scenario_text.proofs.Stores.{sets-append}
 use Rattle.blocks.specs.Blocks.{front, opening}
 use Rattle.blocks.specs.declared.Signals.{Signals}
 use Rattle.vcd.specs.Trace.{words}

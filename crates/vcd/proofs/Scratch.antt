@@ -7,8 +7,8 @@ use native.Mathlib.Omega.{arith}
 use lib.Dec.{ltb, leb}
 use lib.ListN.{length, take, drop, replicate}
 use lib.Seq.{sets-eq, take-append-seam}
-use Rattle.text.specs.Put.{Put, stored, placeAfter}
-use Rattle.text.proofs.Stores.{both}
+use Rattle.scenario_text.specs.Put.{Put, stored, placeAfter}
+use Rattle.scenario_text.proofs.Stores.{both}
 use Rattle.blocks.specs.Blocks.{timeLine, front, same, changed, timeBytes, changedBytes, frontBytes}
 use Rattle.blocks.specs.declared.Signals.{Signals}
 use Rattle.blocks.proofs.Puts.{placed}

@@ -10,8 +10,8 @@ use lib.Dec.{leb}
 use lib.ListN.{length, take, drop, replicate, length-append, length-replicate}
 use lib.Seq.{sets, length-sets, sets-eq, length-take-le, take-append-seam}
 use borrow.Author.Tests.{le-leb, lt-leb, leb-false}
-use Rattle.text.specs.Put.{stored, placeAfter}
-use Rattle.text.proofs.Stores.{sets-append}
+use Rattle.scenario_text.specs.Put.{stored, placeAfter}
+use Rattle.scenario_text.proofs.Stores.{sets-append}
 use Rattle.vcd.specs.Write.{noRoom, done, refusedBy}
 use Rattle.vcd.specs.Walk.{told, keeps, passes}
 use Rattle.vcd.specs.declared.Answer.{Answer}

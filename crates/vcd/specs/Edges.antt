@@ -4,7 +4,7 @@ use mathlib.Core.Bool.{true, false}
 use mathlib.Core.Path.{_≡_}
 use mathlib.Core.List.{List, [], _∷_, _++_}
 use lib.ListN.{drop}
-use Rattle.lines.specs.Ascii.{bytes}
+use Rattle.scenario_lines.specs.Ascii.{bytes}
 use Rattle.blocks.specs.Blocks.{timeLine, opening, front}
 use Rattle.blocks.specs.Wave.{waveform}
 use Rattle.blocks.specs.declared.Signals.{Signals}

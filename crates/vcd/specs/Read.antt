@@ -6,9 +6,9 @@ use mathlib.Core.List.{List, [], _∷_, _++_}
 use lib.Dec.{eqb, ltb, leb}
 use lib.ListN.{length, getD, drop, replicate}
 use lib.Seq.{sets}
-use Rattle.lines.specs.Number.{more}
-use Rattle.lines.specs.declared.Parsed.{Parsed}
-use Rattle.lines.specs.declared.Parsed.the-variants.{No, Is}
+use Rattle.scenario_lines.specs.Number.{more}
+use Rattle.scenario_lines.specs.declared.Parsed.{Parsed}
+use Rattle.scenario_lines.specs.declared.Parsed.the-variants.{No, Is}
 use Rattle.blocks.specs.Binary.{isBit}
 use Rattle.blocks.specs.Blocks.{timeLine, front, same, changed}
 use Rattle.blocks.specs.declared.Signals.{Signals}

@@ -5,7 +5,7 @@ use mathlib.Core.List.{List, _++_}
 use lib.Dec.{leb}
 use lib.ListN.{length}
 use lib.Seq.{sets}
-use Rattle.text.specs.Put.{stored}
+use Rattle.scenario_text.specs.Put.{stored}
 use Rattle.blocks.specs.Wave.{after, changes, close}
 use Rattle.blocks.specs.declared.Signals.{Signals}
 use Rattle.blocks.specs.declared.Wave.{Wave}

@@ -5,8 +5,8 @@ ghost use lib.ListN.{getD, drop};
 ghost use Rattle.blocks.specs.Binary.{isBit};
 ghost use Rattle.vcd.specs.Read.{digitsAhead, bitsAhead, rcAhead, signalsAhead};
 use blocks::Signals;
-use lines::Parsed;
-use lines::number;
+use scenario_lines::Parsed;
+use scenario_lines::number;
 
 // The least number that no binary digit can follow.
 const HALF: u64 = 9223372036854775808;

@@ -2,7 +2,7 @@
 ghost use Prim.Native.Nat.{_+_, _*_, _≤_};
 ghost use mathlib.Core.List.{[], _∷_, _++_};
 ghost use lib.ListN.{length, replicate};
-ghost use Rattle.text.specs.Put.{Put};
+ghost use Rattle.scenario_text.specs.Put.{Put};
 ghost use Rattle.vcd.specs.Trace.{words};
 use blocks::Signals;
 

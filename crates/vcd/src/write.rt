@@ -168,9 +168,9 @@ fn pass(piece: &[u8], n: usize, at: usize, storing: bool, out: &mut [u8]) -> Ans
     ensures { λ r. ⌜ r ≡ told (length (now (out .entry))) (at + length (take n (now (piece .entry)))) ⌝ }
     ensures { λ _. ⌜ now (out .exit) ≡ passes storing (now (out .entry)) at (take n (now (piece .entry))) ⌝ }
 {
-    if text::has_room(out.len(), at, n) {
+    if scenario_text::has_room(out.len(), at, n) {
         if storing {
-            let stored = text::put_bytes(out, at, &piece[..n]);
+            let stored = scenario_text::put_bytes(out, at, &piece[..n]);
             return Answer {
                 refused: 0,
                 n: stored as u64,

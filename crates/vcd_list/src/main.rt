@@ -7,9 +7,9 @@ ghost use mathlib.Core.Path.{_≡_};
 ghost use lib.ListN.{length};
 use libc::STDIN_FILENO;
 use libc::STDOUT_FILENO;
-use lines::Parsed;
-use lines::number;
-use tally::Tally;
+use replay::Tally;
+use scenario_lines::Parsed;
+use scenario_lines::number;
 use vcd::Answer;
 use vcd::read;
 use vcd::write;
@@ -67,7 +67,7 @@ fn room() -> [u8; MOST]
 
 fn report(counts: Counts) {
     let tally = counts.tally;
-    tally::report(tally);
+    replay::report(tally);
     print(b"unreadable ", counts.unreadable);
     print(b"wrong on purpose and found ", counts.found);
 }
@@ -80,7 +80,7 @@ fn print(what: &[u8], n: u64) {
 
 fn replay_all(list: &[u8]) -> Counts {
     let mut counts = Counts {
-        tally: tally::start(),
+        tally: replay::start(),
         unreadable: 0,
         found: 0,
     };
@@ -134,14 +134,14 @@ fn on_wrong(counts: Counts, verdict: Verdict) -> Counts {
 fn compared(counts: Counts, is_equal: bool) -> Counts {
     let tally = counts.tally;
     let mut after = counts;
-    after.tally = tally::count(tally, is_equal);
+    after.tally = replay::count(tally, is_equal);
     after
 }
 
 fn passed(counts: Counts) -> Counts {
     let tally = counts.tally;
     let mut after = counts;
-    after.tally = tally::pass(tally);
+    after.tally = replay::pass(tally);
     after
 }
 

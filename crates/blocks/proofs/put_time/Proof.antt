@@ -5,7 +5,7 @@ use native.Mathlib.Omega.{arith}
 use denote.Ref.{now}
 use lib.ListN.{length}
 use borrow.Author.Tests.{leb-true}
-use Rattle.text.proofs.Stores.{told, untold}
+use Rattle.scenario_text.proofs.Stores.{told, untold}
 use Rattle.blocks.specs.Blocks.{timeLine}
 use borrow.Author.Needs.{needs}
 use Rattle.blocks.proofs.put_time.Statement.{statement}

@@ -5,7 +5,7 @@ use mathlib.Core.Path.{_≡_, refl, sym, _∙_}
 use native.Mathlib.Omega.{arith}
 use lib.ListN.{length, length-set}
 use lib.Seq.{sets}
-use Rattle.text.proofs.Stores.{puts}
+use Rattle.scenario_text.proofs.Stores.{puts}
 use Rattle.blocks.specs.Binary.{binary}
 use Rattle.blocks.proofs.Bits.{bits-short, bits-some, length-more, bit-stored, first-stored}
 use borrow.Author.Needs.{needs}

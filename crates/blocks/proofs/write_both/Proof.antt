@@ -1,5 +1,5 @@
 -- `write_both` meets its contract: three stores, one behind the other. Assumes nothing.
-use Rattle.text.proofs.Stores.{both}
+use Rattle.scenario_text.proofs.Stores.{both}
 use borrow.Author.Needs.{needs}
 use Rattle.blocks.proofs.write_both.Statement.{statement}
 use Rattle.blocks.proofs.write_both.Tie as tie

@@ -1,5 +1,5 @@
 -- `write_change` meets its contract: two stores, one behind the other. Assumes nothing.
-use Rattle.text.proofs.Stores.{both}
+use Rattle.scenario_text.proofs.Stores.{both}
 use borrow.Author.Needs.{needs}
 use Rattle.blocks.proofs.write_change.Statement.{statement}
 use Rattle.blocks.proofs.write_change.Tie as tie

@@ -1,5 +1,5 @@
 -- `write_dump` meets its contract: two stores, one behind the other. Assumes nothing.
-use Rattle.text.proofs.Stores.{both}
+use Rattle.scenario_text.proofs.Stores.{both}
 use Rattle.blocks.specs.Blocks.{dump}
 use borrow.Author.Needs.{needs}
 use Rattle.blocks.proofs.write_dump.Statement.{statement}

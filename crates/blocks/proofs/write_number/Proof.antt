@@ -1,7 +1,7 @@
 -- `write_number` meets its contract. Assumes nothing.
 use native.Mathlib.Omega.{arith}
-use Rattle.text.specs.Number.{text}
-use Rattle.text.proofs.Digits.{text-short}
+use Rattle.scenario_text.specs.Number.{text}
+use Rattle.scenario_text.proofs.Digits.{text-short}
 use Rattle.blocks.proofs.Puts.{placed}
 use borrow.Author.Needs.{needs}
 use Rattle.blocks.proofs.write_number.Statement.{statement}

@@ -12,8 +12,8 @@ use Rattle.machine.specs.Lists.{start}
 use Rattle.machine.specs.Step.{here}
 use Rattle.machine.specs.Tidy.{cost}
 use Rattle.machine.specs.declared.Rec.{Rec}
-use Rattle.tidy.specs.Rests.{wordsAt}
-use Rattle.words.proofs.Loops.{Gathered, sum-on, sum-over}
+use Rattle.lock_tidy.specs.Rests.{wordsAt}
+use Rattle.lock_words.proofs.Loops.{Gathered, sum-on, sum-over}
 use Rattle.lock.proofs.Costs.{cost-most, cost-cut}
 use Rattle.lock.proofs.drain.bound.Statement.{statement}
 use Rattle.lock.proofs.drain.bound.Tie as tie

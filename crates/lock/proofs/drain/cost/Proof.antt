@@ -6,7 +6,7 @@ use denote.Ref.{now}
 use borrow.Author.Needs.{needs}
 use Rattle.machine.specs.Tidy.{price, cost}
 use Rattle.machine.proofs.Falls.{cost-next}
-use Rattle.tidy.specs.Rests.{wordsAt}
+use Rattle.lock_tidy.specs.Rests.{wordsAt}
 use Rattle.lock.proofs.Costs.{price-most, cost-most, cost-over}
 use Rattle.lock.proofs.drain.cost.Statement.{statement}
 use Rattle.lock.proofs.drain.cost.Tie as tie

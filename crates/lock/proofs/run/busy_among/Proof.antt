@@ -5,7 +5,7 @@ use native.Mathlib.Omega.{arith}
 use lib.ListN.{length, take}
 use lib.Seq.{length-take-le}
 use Rattle.machine.specs.Step.{busyOf}
-use Rattle.words.proofs.Loops.{Gathered, sum-on, sum-over}
+use Rattle.lock_words.proofs.Loops.{Gathered, sum-on, sum-over}
 use borrow.Author.Needs.{needs}
 use Rattle.lock.proofs.run.busy_among.Statement.{statement}
 use Rattle.lock.proofs.run.busy_among.Tie as tie

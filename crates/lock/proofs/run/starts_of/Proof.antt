@@ -5,7 +5,7 @@ use native.Mathlib.Omega.{arith}
 use denote.Ref.{now}
 use lib.ListN.{length, getD, length-set}
 use Rattle.machine.specs.Lists.{total, start}
-use Rattle.scripts.proofs.Starts.{start-next}
+use Rattle.lock_scripts.proofs.Starts.{start-next}
 use Rattle.lock.proofs.Running.{written}
 use borrow.Author.Needs.{needs}
 use Rattle.lock.proofs.run.starts_of.Statement.{statement}

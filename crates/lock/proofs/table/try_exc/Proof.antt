@@ -7,7 +7,7 @@ use Rattle.machine.specs.Words.{goes}
 use Rattle.machine.specs.Step.{does}
 use Rattle.machine.specs.declared.Lock.{Lock}
 use Rattle.machine.specs.declared.Place.the-variants.{Idle}
-use Rattle.access.proofs.Told.{exc-kept}
+use Rattle.lock_access.proofs.Told.{exc-kept}
 use borrow.Author.Needs.{needs}
 use Rattle.lock.proofs.table.try_exc.Statement.{statement}
 use Rattle.lock.proofs.table.try_exc.Tie as tie

@@ -2,7 +2,7 @@
 use mathlib.Core.Path.{_∙_}
 use denote.Ref.{now}
 use lib.ListN.{length}
-use Rattle.lines.proofs.Scans.{part-whole}
+use Rattle.scenario_lines.proofs.Scans.{part-whole}
 use Rattle.vcd.proofs.Gather.{none-there}
 use borrow.Author.Needs.{needs}
 use Rattle.vcd.proofs.ahead.behind.Statement.{statement}
