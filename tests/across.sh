@@ -4,34 +4,11 @@
 # A must-fail edit of the kit rechecks the crate that it edits, and no other; hence this. It takes some minutes, and is no part of the gate.
 set -eu
 cd "$(dirname "$0")/.."
+. tests/lib.sh
 [ $# -gt 0 ] || set -- tests/across/*.edit
 room=$(mktemp -d)
 trap 'rm -rf "$room"' EXIT
 passed=0 failed=0
-
-# apply EDIT: in this folder; every old text has to stand in its file just once
-apply() {
-    awk -v edit="$1" '
-    function times(text, part,    n, at) {
-        while (at = index(text, part)) { n++; text = substr(text, at + length(part)) }
-        return n + 0
-    }
-    function stop(why) { print edit ": " why > "/dev/stderr"; bad = 1; exit 1 }
-    function read(name,    line) {
-        whole = ""
-        while ((getline line < name) > 0) whole = whole line "\n"
-        close(name)
-    }
-    /^file: / { file = substr($0, 7) }
-    /^old: / { old = substr($0, 6) }
-    /^new: / {
-        read(file)
-        if (times(whole, old) != 1) stop("not once in " file ": " old)
-        at = index(whole, old)
-        printf "%s", substr(whole, 1, at - 1) substr($0, 6) substr(whole, at + length(old)) > file
-        close(file)
-    }' "$1"
-}
 
 for edit in "$@"; do
     label=$(basename "$edit" .edit)

@@ -1,8 +1,34 @@
-# What the tests of waveforms share.
+# What tests share.
 
 # signals: what unwave prints for the waveform of the trace on standard input; both signals are 0 before the first row
 signals() {
     LC_ALL=C awk -F, '
         BEGIN { printf "time,exc,rc\r\n0,0,0\r\n" }
         NR > 1 && !/^refused,/ { print NR - 1 "," $6 "," $7 }'
+}
+
+# apply EDIT: in this folder; every old text has to stand in its file just once
+apply() {
+    awk -v edit="$1" '
+    function times(text, part,    n, at) {
+        while (at = index(text, part)) { n++; text = substr(text, at + length(part)) }
+        return n + 0
+    }
+    function stop(why) { print edit ": " why > "/dev/stderr"; bad = 1; exit 1 }
+    function read(name,    line) {
+        whole = ""
+        while ((getline line < name) > 0) whole = whole line "\n"
+        close(name)
+    }
+    /^file: / { file = substr($0, 7) }
+    /^old: / { old = substr($0, 6) }
+    /^new:/ {
+        read(file)
+        if (times(whole, old) != 1) stop("not once in " file ": " old)
+        at = index(whole, old)
+        new = substr($0, 5)
+        sub(/^ /, "", new)
+        printf "%s", substr(whole, 1, at - 1) new substr(whole, at + length(old)) > file
+        close(file)
+    }' "$1"
 }

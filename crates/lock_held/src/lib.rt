@@ -17,13 +17,11 @@ use lock::setup;
 use lock::setup::Begun;
 use lock_lent::drain::DrainedWith;
 use lock_lent::run::RanWith;
+use lock_words::names::MOST_THREADS;
 use machine::Lock;
 use machine::Rec;
 
 mod front;
-
-// The array has room for as many records as there may be threads.
-const MOST_THREADS: u64 = 16;
 
 pub fn setup(
     pred: Pred,

@@ -85,8 +85,8 @@ module _ (l : List Rec) (i : ℕ) where
       let other : j ≢ i = λ e. omega (arith, ap busyOf (set-out-own l i j unbegun e)) in
       (j, other, rw length-set at below, not-idle (here l j) (rw (getD-set-other l i j unbegun unbegun other) at busy))
 
-  others-busy : (j : ℕ) → j ≢ i → j < length l → here l j .place ≢ Idle → 0 < others l i
-  others-busy j ne h busy = omega (arith, sum-other (λ k r. busyOf r) l i j unbegun ne h, weighs (here l j) busy)
+  busy-counted : (j : ℕ) → j ≢ i → j < length l → here l j .place ≢ Idle → 0 < others l i
+  busy-counted j ne h busy = omega (arith, sum-other (λ k r. busyOf r) l i j unbegun ne h, weighs (here l j) busy)
 
 -- ---- the mover
 begun-by : (m : Mover) (i : ℕ) → begun m i ≡ false → m ≢ By i
@@ -133,7 +133,7 @@ module _ (S : Scripts) (L : Lock) (l : List Rec) (i : ℕ) where
   entry-finds k (moved-by-another t e ne) = inr (inr (inl (refl, rw (e, ne-eqb t i ne, or-true))))
   entry-finds k (does-not-fit never) = inr (inr (inr (inl (refl, ap not (not-so _ (λ e. never (fits-table _ _ .0 e)))))))
   entry-finds k (others-busy o m j ne h p) =
-      inr (inr (inr (inr (inl (refl, rw (eq-eqb _ _ o, not-begun (L .mover) i m, lt-ltb 0 (others l i) (others-busy l i j ne h p)))))))
+      inr (inr (inr (inr (inl (refl, rw (eq-eqb _ _ o, not-begun (L .mover) i m, lt-ltb 0 (others l i) (busy-counted l i j ne h p)))))))
   entry-finds k (not-permitted p o e) = inr (inr (inr (inr (inr (inl (refl, rw (p, eq-eqb _ _ o, e)))))))
 
 pub entry-exact : EntryExact

@@ -16,8 +16,8 @@ use Rattle.scenario_read.specs.declared.Fed.{Fed}
 use Rattle.program_intake.specs.declared.Intake.{Intake}
 use Rattle.program_intake.specs.declared.Came.{Came}
 
-abbrev pub begun : Intake
-begun = record { state = fresh; standing = firstOf Any 1 0; input = unread; full = false }
+abbrev pub nothingTaken : Intake
+nothingTaken = record { state = fresh; standing = firstOf Any 1 0; input = unread; full = false }
 
 -- the chunk in hand stays: the list for rows was full, bytes of it are left, it is the last one, or its reading failed
 abbrev pub keeps : Intake → Bool

@@ -5,7 +5,7 @@ ghost use mathlib.Core.Bool.{_||_};
 ghost use lib.ListN.{length};
 ghost use Rattle.program_chunks.specs.Chunks.{stays};
 ghost use Rattle.scenario_read.specs.Code.{fedOf};
-ghost use Rattle.program_intake.specs.Intake.{begun, failed, turned, cameOf, InHand};
+ghost use Rattle.program_intake.specs.Intake.{nothingTaken, failed, turned, cameOf, InHand};
 use cell::pred::Pred;
 use libc::STDIN_FILENO;
 use program_chunks::Input;
@@ -32,7 +32,7 @@ pub struct Came {
 
 // Before the first byte. The standing is any, until the lock is set up.
 pub fn begin() -> Intake
-    ensures { λ r. ⌜ r ≡ begun ⌝ }
+    ensures { λ r. ⌜ r ≡ nothingTaken ⌝ }
 {
     Intake {
         state: scenario_read::fresh(),

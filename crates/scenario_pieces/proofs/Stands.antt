@@ -26,7 +26,7 @@ use Rattle.lock_promises.proofs.Reached.{ranAs, Comes, runs-on}
 use Rattle.scenario.specs.Pieces.{Standing as Listed, atFirst, ranFrom, pieceRows, afterPiece}
 use Rattle.scenario.proofs.Pieces.{two-pieces}
 use Rattle.scenario_pieces.specs.Piece.{piece, recsOf, refusalOf, pieceRan, wordsIn, standingOf, ranLeft, ranStored, hasRoom, leftOf, storedOf}
-use Rattle.scenario_pieces.specs.Stands.{pieceWords, PieceIsRun, AllStays, begun, Stands, FirstStands, ScenarioStands, PieceStands, NeverRefused, RowsNext}
+use Rattle.scenario_pieces.specs.Stands.{pieceWords, PieceIsRun, AllStays, firstListed, Stands, FirstStands, ScenarioStands, PieceStands, NeverRefused, RowsNext}
 use Rattle.scenario_pieces.specs.declared.Standing.{Standing}
 use Rattle.scenario_pieces.specs.declared.Left.{Left}
 use Rattle.scenario_pieces.proofs.Piece.{six-each}
@@ -98,7 +98,7 @@ first-stands s q m v p is accepted =
     rw is (record {
       accepted = accepted;
       wide = length-replicate mostThreads unbegun;
-      is = λ j. record { lock = begun s q m v .lock; recs = recs j };
+      is = λ j. record { lock = firstListed s q m v .lock; recs = recs j };
     })
 
 -- setup asks for a record for each script
@@ -118,7 +118,7 @@ scenario-stands file p accepted is =
 
 -- one schedule makes it of one setup
 comes : (s : Lent) (q : Pred) (m v : ℕ) (before : List ℕ) (p : Standing) → Stands s q m v before p
-    → Comes s q m v (ranAs (p .lock) (recsOf s p) (ranFrom s (begun s q m v) before .rows))
+    → Comes s q m v (ranAs (p .lock) (recsOf s p) (ranFrom s (firstListed s q m v) before .rows))
 comes s q m v before p st =
     let lock = ap (λ (x : Listed). x .lock) (sym (st .is)) in
     let recs = ap (λ (x : Listed). x .recs) (sym (st .is)) in
@@ -126,7 +126,7 @@ comes s q m v before p st =
       records = length (s .lens);
       schedule = before;
       accepted = st .accepted;
-      is = λ j. ranAs (lock j) (recs j) (ranFrom s (begun s q m v) before .rows);
+      is = λ j. ranAs (lock j) (recs j) (ranFrom s (firstListed s q m v) before .rows);
     }
 
 pub never-refused : NeverRefused
@@ -147,7 +147,7 @@ piece-stands s q m v before p st entries out at r is = go (hasRoom entries out a
           is =
               told .3
               ∙ ap (λ (x : Listed). afterPiece s x (piece entries)) (st .is)
-              ∙ sym (two-pieces s (begun s q m v) before (piece entries) .1);
+              ∙ sym (two-pieces s (firstListed s q m v) before (piece entries) .1);
         }
     go false e =
         let same = ap (λ (x : Left). x .standing) (is ∙ no-room s p entries out at e .0) in
@@ -155,7 +155,7 @@ piece-stands s q m v before p st entries out at r is = go (hasRoom entries out a
 
 pub rows-next : RowsNext
 rows-next s q m v before p st entries =
-    let first = begun s q m v in
+    let first = firstListed s q m v in
     ap wordsOf (two-pieces s first before entries .0)
     ∙ words-append (pieceRows s first before) (pieceRows s (afterPiece s first before) entries)
     ∙ ap (λ (x : Listed). pieceWords s first before ++ pieceWords s x entries) (sym (st .is))

@@ -52,25 +52,25 @@ AllStays =
 
 -- ---- piece after piece
 -- as setup makes it, with the predicate q, the top m and the first value v
-abbrev pub begun : Lent → Pred → ℕ → ℕ → Listed
-begun s q m v = record { lock = unused q m v; recs = fresh (length (s .lens)) }
+abbrev pub firstListed : Lent → Pred → ℕ → ℕ → Listed
+firstListed s q m v = record { lock = unused q m v; recs = fresh (length (s .lens)) }
 
 -- setup takes the scripts, and p is what the entries `before` leave of it
 pub record Stands (s : Lent) (q : Pred) (m v : ℕ) (before : List ℕ) (p : Standing) : Type 0 where
   pub accepted : setupRefusal q m v s (length (s .lens)) ≡ 0
   -- the array has sixteen records
   pub wide : length (p .recs) ≡ mostThreads
-  pub is : listed s p ≡ afterPiece s (begun s q m v) before
+  pub is : listed s p ≡ afterPiece s (firstListed s q m v) before
 
 abbrev pub FirstStands : Type 0
 FirstStands =
     (s : Lent) (q : Pred) (m v : ℕ) (p : Standing) → p ≡ firstOf q m v → setupRefusal q m v s (length (s .lens)) ≡ 0 → Stands s q m v [] p
 
--- so the standings of a scenario file begin, where setup refuses nothing of what is read; and `begun` is scenario's
+-- so the standings of a scenario file begin, where setup refuses nothing of what is read; and `firstListed` is scenario's
 abbrev pub ScenarioStands : Type 0
 ScenarioStands =
     (file : Scenario) (p : Standing) → asked file ≡ 0 → p ≡ firstOf (file .pred) (file .top) (file .first)
-    → Stands (file .lent) (file .pred) (file .top) (file .first) [] p × (begun (file .lent) (file .pred) (file .top) (file .first) ≡ atFirst file)
+    → Stands (file .lent) (file .pred) (file .top) (file .first) [] p × (firstListed (file .lent) (file .pred) (file .top) (file .first) ≡ atFirst file)
 
 -- the entries that are run: those of the piece, or none where there is no room
 abbrev pub runEntries : List ℕ → List ℕ → ℕ → List ℕ
@@ -89,4 +89,4 @@ NeverRefused = (s : Lent) (q : Pred) (m v : ℕ) (before : List ℕ) (p : Standi
 abbrev pub RowsNext : Type 0
 RowsNext =
     (s : Lent) (q : Pred) (m v : ℕ) (before : List ℕ) (p : Standing) → Stands s q m v before p → (entries : List ℕ)
-    → pieceWords s (begun s q m v) (before ++ entries) ≡ pieceWords s (begun s q m v) before ++ pieceWords s (listed s p) entries
+    → pieceWords s (firstListed s q m v) (before ++ entries) ≡ pieceWords s (firstListed s q m v) before ++ pieceWords s (listed s p) entries

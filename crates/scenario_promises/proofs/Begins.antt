@@ -18,7 +18,7 @@ use Rattle.scenario.proofs.Pieces.{one-piece, two-pieces}
 use Rattle.scenario_stages.specs.Kept.{outline}
 use Rattle.scenario_stages.specs.declared.Read.{Read}
 use Rattle.scenario_stages.proofs.Means.{lock-means}
-use Rattle.scenario_pieces.specs.Stands.{begun as setUp, pieceWords}
+use Rattle.scenario_pieces.specs.Stands.{firstListed as setUp, pieceWords}
 use Rattle.scenario_pieces.specs.declared.Standing.{Standing}
 use Rattle.scenario_read.specs.Feed.{World}
 use Rattle.scenario_promises.specs.Session.{fileWords, MayCome}

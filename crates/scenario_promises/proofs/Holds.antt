@@ -16,7 +16,7 @@ use Rattle.scenario_stages.specs.Kept.{outline}
 use Rattle.scenario_stages.specs.Means.{Means}
 use Rattle.scenario_stages.specs.declared.Read.{Read}
 use Rattle.scenario_pieces.specs.Piece.{mostEntries}
-use Rattle.scenario_pieces.specs.Stands.{begun, pieceWords, Stands}
+use Rattle.scenario_pieces.specs.Stands.{firstListed, pieceWords, Stands}
 use Rattle.scenario_pieces.specs.declared.Standing.{Standing}
 use Rattle.scenario_read.specs.Feed.{World}
 use Rattle.scenario_read.specs.declared.State.{State}
@@ -32,7 +32,7 @@ Entries false r l p gathered past rows = (past ≡ []) × (rows ≡ []) × (gath
 Entries true r l p gathered past rows =
     (r .stage ≡ AtRuns)
     × Stands l (r .pred) (r .top) (r .first) past p
-    × (rows ≡ pieceWords l (begun l (r .pred) (r .top) (r .first)) past)
+    × (rows ≡ pieceWords l (firstListed l (r .pred) (r .top) (r .first)) past)
 
 -- the schedule is what was run, what waits, and what the last line still adds
 pub record Holds (r : Read) (stood : Bool) (gathered : ℕ) (p : Standing) (lens ops vals schedule : List ℕ) (q : Reading) (past rows : List ℕ) : Type 0 where

@@ -15,7 +15,7 @@ use Rattle.scenario_stages.specs.Means.{Means}
 use Rattle.scenario_stages.specs.declared.Read.{Read}
 use Rattle.scenario_stages.proofs.Means.{lent-means, lock-means}
 use Rattle.scenario_pieces.specs.Piece.{firstOf}
-use Rattle.scenario_pieces.specs.Stands.{begun as setUp, pieceWords, Stands}
+use Rattle.scenario_pieces.specs.Stands.{firstListed as setUp, pieceWords, Stands}
 use Rattle.scenario_pieces.specs.declared.Standing.{Standing}
 use Rattle.scenario_pieces.proofs.Stands.{scenario-stands}
 use Rattle.scenario_read.specs.Feed.{World, stands}

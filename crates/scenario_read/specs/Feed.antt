@@ -11,7 +11,7 @@ use Rattle.scenario_lines.specs.Judge.{judge}
 use Rattle.scenario_lines.specs.Held.{unheld, took, view, heldEnd, lineEnd}
 use Rattle.scenario_lines.specs.declared.Line.{Line}
 use Rattle.scenario_lines.specs.declared.bytes.Held.{Held}
-use Rattle.scenario_stages.specs.Kept.{begun, onLine, lensAfter, opsAfter, valsAfter, atEnd}
+use Rattle.scenario_stages.specs.Kept.{nothingRead, onLine, lensAfter, opsAfter, valsAfter, atEnd}
 use Rattle.scenario_stages.specs.Means.{withEntries}
 use Rattle.scenario_stages.specs.declared.Read.{Read}
 use Rattle.scenario_pieces.specs.Piece.{mostEntries, firstOf, leftOf, storedOf}
@@ -37,7 +37,7 @@ pub record World : Type 0 where
 
 -- before the first byte
 abbrev pub fresh : State
-fresh = record { held = unheld; read = begun; gathered = 0; stood = false; closed = false }
+fresh = record { held = unheld; read = nothingRead; gathered = 0; stood = false; closed = false }
 
 -- ---- what comes next
 -- the most words that a move stores: the rows of a whole piece

@@ -47,8 +47,8 @@ keeping line refused s count t times =
     }
 
 -- before the first line
-abbrev pub begun : Read
-begun = keeping 0 0 nothing 0 0 0
+abbrev pub nothingRead : Read
+nothingRead = keeping 0 0 nothing 0 0 0
 
 -- lines and operations are counted modulo 2 ^ 64
 abbrev pub countedOn : ℕ → ℕ

@@ -16,7 +16,7 @@ use Rattle.scenario.specs.Refused.{stageNo}
 use Rattle.scenario.specs.Setup.{Accepted}
 use Rattle.scenario.specs.Printed.{Reading, start, next, ended, refusalText}
 use Rattle.scenario_stages.specs.declared.Read.{Read}
-use Rattle.scenario_stages.specs.Kept.{outline, keeping, begun, onLine, lensAfter, opsAfter, valsAfter, atEnd}
+use Rattle.scenario_stages.specs.Kept.{outline, keeping, nothingRead, onLine, lensAfter, opsAfter, valsAfter, atEnd}
 
 -- 16 scripts of 64 operations
 abbrev pub mostOps : ℕ
@@ -52,7 +52,7 @@ pub record Means (r : Read) (lens ops vals : List ℕ) (q : Reading) : Type 0 wh
 
 -- ---- the start, a line, the end
 abbrev pub BeginMeans : Type 0
-BeginMeans = (lens ops vals : List ℕ) → Room lens ops vals → Means begun lens ops vals start
+BeginMeans = (lens ops vals : List ℕ) → Room lens ops vals → Means nothingRead lens ops vals start
 
 -- the schedule grows by the entries that are kept
 abbrev pub LineMeans : Type 0

@@ -11,7 +11,7 @@ ghost use Rattle.machine.specs.Setup.{setupRefusal};
 ghost use Rattle.scenario.specs.Names.{wrongLine};
 ghost use Rattle.scenario.specs.Scenario.{predOf};
 ghost use Rattle.scenario.specs.Refused.{stageNo, at, misplaced};
-ghost use Rattle.scenario_stages.specs.Kept.{begun, outline, countedOn, opNumber, refusalAt, refusedBy, afterLine, onLine, atEnd};
+ghost use Rattle.scenario_stages.specs.Kept.{nothingRead, outline, countedOn, opNumber, refusalAt, refusedBy, afterLine, onLine, atEnd};
 ghost use Rattle.scenario_stages.specs.Kept.{cleared, lensWith, opsWith, valsWith, unlessRefused, lensAfter, opsAfter, valsAfter};
 use atomic::Count;
 use cell::pred;
@@ -59,7 +59,7 @@ pub struct Read {
 
 // Before the first line.
 pub fn begin() -> Read
-    ensures { λ r. ⌜ r ≡ begun ⌝ }
+    ensures { λ r. ⌜ r ≡ nothingRead ⌝ }
 {
     Read {
         line: 0,

@@ -6,7 +6,8 @@ use native.Mathlib.Omega.{arith}
 use lib.ListN.{length, length-append}
 use Rattle.machine.specs.declared.Row.{Row}
 use Rattle.scenario_text.specs.Number.{text}
-use Rattle.scenario_text.specs.Lines.{comma, fields, lastField, rowText}
+use Rattle.scenario_lines.specs.Judge.{comma}
+use Rattle.scenario_text.specs.Lines.{fields, lastField, rowText}
 use Rattle.scenario_text.proofs.Digits.{text-short}
 
 pub fields-append : (a b : List ℕ) → fields (a ++ b) ≡ fields a ++ fields b

@@ -2,11 +2,9 @@
 use Prim.Native.Nat.{ℕ}
 use mathlib.Core.List.{List, [], _∷_, _++_}
 use Rattle.scenario_lines.specs.Ascii.{bytes}
+use Rattle.scenario_lines.specs.Judge.{comma}
 use Rattle.machine.specs.declared.Row.{Row}
 use Rattle.scenario_text.specs.Number.{text}
-
-abbrev pub comma : ℕ
-comma = 44
 
 abbrev pub break : List ℕ
 break = bytes "\r\n"

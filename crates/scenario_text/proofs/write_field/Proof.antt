@@ -1,6 +1,6 @@
 -- `write_field` meets its contract: a number and one byte more. Assumes nothing.
 use borrow.Author.Needs.{needs}
-use Rattle.scenario_text.specs.Lines.{comma}
+use Rattle.scenario_lines.specs.Judge.{comma}
 use Rattle.scenario_text.proofs.Stores.{one-more}
 use Rattle.scenario_text.proofs.Texts.{one-field}
 use Rattle.scenario_text.proofs.write_field.Statement.{statement}
