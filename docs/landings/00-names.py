@@ -58,6 +58,7 @@ MEANT = [
 ANYWHERE = [
     (r"\bmustWait\b", "othersAreBusy"),
     (r"\bmust_wait\b", "others_are_busy"),
+    (r"(?<![\w-])must-wait(?=-spec|\b)", "others-are-busy"),
     (r"(?<![\w-])other-not-idle(?![\w-])", "others-busy"),
 ]
 

@@ -13,5 +13,5 @@ returns-2 c = simp (eq-eqb _ _ (c .before .before .if1 .taken), ← (c .before .
 returns-3 : tie.Need-returns-3
 returns-3 c = simp (ne-eqb _ _ (c .if1 .left))
 
-pub must-wait-spec : {M : Type 1} → statement M
-must-wait-spec = tie.close (tie.spec (λ c κs. search needs) returns returns-2 returns-3)
+pub others-are-busy-spec : {M : Type 1} → statement M
+others-are-busy-spec = tie.close (tie.spec (λ c κs. search needs) returns returns-2 returns-3)

@@ -30,7 +30,7 @@ returns-4 c =
       lt-leb _ _ (b .before .before .before .before .if1 .left),
       sym (b .before .before .before .gone .ensures) ∙ b .before .before .if2 .left,
       ap not (sym (b .before .fits2 .ensures)) ∙ b .if3 .left,
-      sym (c .before .must-wait .ensures) ∙ c .if4 .taken,
+      sym (c .before .others-are-busy .ensures) ∙ c .if4 .taken,
     )
 
 returns-5 : tie.Need-returns-5
@@ -40,7 +40,7 @@ returns-5 c =
     let d = b .before .before in
     let fit = ap not (sym (d .before .fits2 .ensures)) ∙ d .if3 .left in
     let going = sym (d .before .before .before .gone .ensures) ∙ d .before .before .if2 .left in
-    simp (lt-leb _ _ (d .before .before .before .before .if1 .left), going, fit, sym (b .before .must-wait .ensures) ∙ b .if4 .left, sym (c .before .forbidden .ensures) ∙ c .if5 .taken)
+    simp (lt-leb _ _ (d .before .before .before .before .if1 .left), going, fit, sym (b .before .others-are-busy .ensures) ∙ b .if4 .left, sym (c .before .forbidden .ensures) ∙ c .if5 .taken)
 
 returns-6 : tie.Need-returns-6
 unfolding turnRefusal lowest
@@ -49,7 +49,7 @@ returns-6 c =
     let d = b .before .before in
     let fit = ap not (sym (d .before .fits2 .ensures)) ∙ d .if3 .left in
     let going = sym (d .before .before .before .gone .ensures) ∙ d .before .before .if2 .left in
-    simp (lt-leb _ _ (d .before .before .before .before .if1 .left), going, fit, sym (b .before .must-wait .ensures) ∙ b .if4 .left, sym (c .before .forbidden .ensures) ∙ c .if5 .left)
+    simp (lt-leb _ _ (d .before .before .before .before .if1 .left), going, fit, sym (b .before .others-are-busy .ensures) ∙ b .if4 .left, sym (c .before .forbidden .ensures) ∙ c .if5 .left)
 
 pub refusal-spec : {M : Type 1} → statement M
 refusal-spec =
