@@ -2,12 +2,12 @@
 // it is not the waveform of any signals, 41 where it has more than 262,144 bytes or more than 16,383 rows.
 ghost use mathlib.Core.Path.{_≡_};
 ghost use lib.ListN.{length};
-use blocks::Signals;
 use libc::STDERR_FILENO;
 use libc::STDIN_FILENO;
 use libc::STDOUT_FILENO;
 use vcd::Answer;
-use vcd::NO_ROOM;
+use vcd::Signals;
+use vcd_code::NO_ROOM;
 
 // So many bytes of text are written at once; behind them the list has room for a line.
 const FULL: usize = 50000;
@@ -93,7 +93,7 @@ fn read_signals(file: &[u8], too_large: bool, signals: &mut [u64]) -> Answer {
             n: 0,
         };
     }
-    vcd::read::read(file, signals)
+    vcd_code::read::read(file, signals)
 }
 
 fn print(answer: Answer, signals: &[u64], out: &mut [u8]) {

@@ -8,14 +8,14 @@ ghost use lib.ListN.{length};
 ghost use lib.Seq.{sets};
 ghost use Rattle.vcd.specs.Trace.{rowSignals};
 ghost use Rattle.vcd_rows.specs.Waves.{leftBy, textBy};
-use blocks::Signals;
-use blocks::Wave;
 use libc::STDERR_FILENO;
 use libc::STDOUT_FILENO;
 use machine::ROW_WORDS;
 use program_intake::Came;
 use program_intake::Intake;
 use scenario_read::Stop;
+use vcd::Signals;
+use vcd::Wave;
 use vcd_rows::Left;
 
 // What is handed from turn to turn, besides the lists.
@@ -94,7 +94,7 @@ fn begin(out: &mut [u8]) -> Run {
     Run {
         intake: program_intake::begin(),
         wave,
-        at: blocks::put_front(out, 0, signals),
+        at: vcd_text::put_front(out, 0, signals),
         ended: false,
     }
 }
@@ -198,7 +198,7 @@ fn finish(whole: bool, wave: Wave, stop: Stop, out: &mut [u8]) {
     if !whole {
         return;
     }
-    let n = blocks::put_close(out, 0, wave);
+    let n = vcd_text::put_close(out, 0, wave);
     write(program_chunks::front(out, n));
     let m = scenario_prints::put_stop(stop, out, 0);
     io::write_all(STDERR_FILENO, program_chunks::front(out, m));

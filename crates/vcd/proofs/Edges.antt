@@ -2,9 +2,9 @@
 use mathlib.Core.Path.{refl}
 use Rattle.scenario_lines.specs.Number.{more}
 use Rattle.scenario_text.specs.Number.{digitsTo, text}
-use Rattle.blocks.specs.Binary.{binary}
-use Rattle.blocks.specs.Blocks.{timeLine, excLine, rcLine, opening, dump, front, changed, change}
-use Rattle.blocks.specs.Wave.{after, changes, close, waveform}
+use Rattle.vcd.specs.Binary.{binary}
+use Rattle.vcd.specs.Blocks.{timeLine, excLine, rcLine, opening, dump, front, changed, change}
+use Rattle.vcd.specs.Wave.{after, changes, close, waveform}
 use Rattle.vcd.specs.Trace.{rowSignals, signalsIn, words}
 use Rattle.vcd.specs.Write.{anyHigh, wrong, written, writtenIn}
 use Rattle.vcd.specs.Read.{digitsAhead, bitsAhead, signalsAhead, starts, blockAt, rowsFound, found, read, readIn}

@@ -9,12 +9,12 @@ use borrow.Author.Tests.{leb-true, leb-false, le-leb, lt-leb, eqb-true, eqb-fals
 use lib.Dec.{eqb, leb}
 use lib.ListN.{length, take, drop}
 use lib.Seq.{sets, sets-eq, take-at, drop-at}
-use Rattle.blocks.specs.Wave.{waveform}
-use Rattle.blocks.specs.declared.Signals.{Signals}
+use Rattle.vcd.specs.Wave.{waveform}
 use Rattle.vcd.specs.Trace.{signalsIn, Lendable, words}
 use Rattle.vcd.specs.Write.{noRoom, noTrace, done, refusedBy, wrong, fileOf, written, writtenIn}
 use Rattle.vcd.specs.Read.{Found, None, Some, found, readAs, read, readIn}
 use Rattle.vcd.specs.Exact.{Different, WrittenIsRead, Writer43, Writer41, WriterTakes, Reader42, TooMany, Reader41, ReaderTakes, ReaderOnly, RefusedWriter, RefusedReader, BytesBehind}
+use Rattle.vcd.specs.declared.Signals.{Signals}
 use Rattle.vcd.specs.declared.Answer.{Answer}
 use Rattle.vcd.proofs.FindsAll.{finds-all}
 use Rattle.vcd.proofs.FindsOnly.{none-some, some-same, finds-only}

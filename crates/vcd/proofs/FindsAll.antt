@@ -10,14 +10,14 @@ use borrow.Author.Tests.{eqb-true, eqb-false}
 use lib.Dec.{eqb}
 use lib.ListN.{length, drop, replicate, length-append}
 use lib.Seq.{drop-append-seam, drop-length}
-use Rattle.blocks.specs.Blocks.{timeLine, opening, front, same, changed, change}
-use Rattle.blocks.specs.Wave.{atFirst, next, after, changes, close, waveform}
-use Rattle.blocks.specs.declared.Signals.{Signals}
-use Rattle.blocks.specs.declared.Wave.{Wave}
+use Rattle.vcd.specs.Blocks.{timeLine, opening, front, same, changed, change}
+use Rattle.vcd.specs.Wave.{atFirst, next, after, changes, close, waveform}
 use Rattle.vcd.specs.Trace.{mostRows, Wired, AllWired}
 use Rattle.vcd.specs.Read.{blockAt, Found, None, Some, behind, rowsFound, found}
 use Rattle.vcd.specs.Exact.{FindsAll}
-use Rattle.vcd.specs.declared.read.Block.{Block}
+use Rattle.vcd.specs.declared.Signals.{Signals}
+use Rattle.vcd.specs.declared.Wave.{Wave}
+use Rattle.vcd.specs.declared.Block.{Block}
 use Rattle.vcd.proofs.OwnText.{NoLine, both-are, blockOf, first-ahead, starts-own, block-changed, block-last}
 
 -- ---- a block that is found

@@ -7,12 +7,12 @@ use native.Mathlib.Omega.{arith}
 use borrow.Author.Tests.{ltb-true, leb-true, eq-eqb}
 use lib.Dec.{ltb, leb}
 use lib.ListN.{length, drop, drop-of-length-le}
-use Rattle.blocks.specs.Blocks.{timeLine, front, same, changed}
-use Rattle.blocks.specs.Wave.{after, changes, close, waveform}
-use Rattle.blocks.specs.declared.Signals.{Signals}
+use Rattle.vcd.specs.Blocks.{timeLine, front, same, changed}
+use Rattle.vcd.specs.Wave.{after, changes, close, waveform}
 use Rattle.vcd.specs.Trace.{mostRows, Wired, Lendable}
 use Rattle.vcd.specs.Read.{starts, blockAt, Found, None, Some, behind, rowsFound, dumpAt, firstAhead, found}
 use Rattle.vcd.specs.Exact.{FindsOnly}
+use Rattle.vcd.specs.declared.Signals.{Signals}
 use Rattle.vcd.proofs.WiredAhead.{both-left, both-right, wired-ahead}
 use Rattle.vcd.proofs.Taken.{starts-with, Rows, rowsTo, taken}
 

@@ -1,4 +1,7 @@
-pub mod Edges
+pub mod Bits
+pub mod Parts
+pub mod Laws
+pub mod ReadBack
 pub mod NumbersAhead
 pub mod OwnText
 pub mod FindsAll
@@ -7,12 +10,4 @@ pub mod Taken
 pub mod FindsOnly
 pub mod Traces
 pub mod Exact
-pub mod TraceRows
-pub mod Walk
-pub mod WalkRows
-pub mod Written
-pub mod Gather
-pub mod Fills
-pub mod Scratch
-pub mod BlocksOn
-pub mod Passes
+pub mod Edges

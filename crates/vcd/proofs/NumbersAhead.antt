@@ -9,7 +9,7 @@ use Rattle.scenario_lines.specs.Number.{more}
 use Rattle.scenario_lines.specs.declared.Parsed.the-variants.{Is}
 use Rattle.scenario_text.specs.Number.{text}
 use Rattle.scenario_text.proofs.Values.{taken}
-use Rattle.blocks.specs.Binary.{isBit, binary}
+use Rattle.vcd.specs.Binary.{isBit, binary}
 use Rattle.vcd.specs.Read.{digitsAhead, bitsAhead}
 
 -- ---- decimal

@@ -11,12 +11,12 @@ use lib.ListN.{length, getD, drop}
 use lib.Seq.{drop-append-seam}
 use Rattle.scenario_lines.specs.Ascii.{bytes}
 use Rattle.scenario_text.specs.Number.{text}
-use Rattle.blocks.specs.Binary.{isBit, binary}
-use Rattle.blocks.specs.Blocks.{timeLine, excLine, rcLine, opening, dump, front, same, changed}
-use Rattle.blocks.specs.declared.Signals.{Signals}
+use Rattle.vcd.specs.Binary.{isBit, binary}
+use Rattle.vcd.specs.Blocks.{timeLine, excLine, rcLine, opening, dump, front, same, changed}
 use Rattle.vcd.specs.Trace.{mostRows, Wired}
 use Rattle.vcd.specs.Read.{timeAhead, excAhead, behindExc, rcAhead, signalsAhead, starts, blockAt, firstAhead}
-use Rattle.vcd.specs.declared.read.Block.{Block}
+use Rattle.vcd.specs.declared.Signals.{Signals}
+use Rattle.vcd.specs.declared.Block.{Block}
 use Rattle.vcd.proofs.NumbersAhead.{text-ahead, binary-ahead}
 
 -- ---- a time

@@ -7,16 +7,16 @@ use native.Mathlib.Omega.{arith}
 use borrow.Author.Tests.{eqb-true, ne-eqb}
 use lib.Dec.{eqb}
 use lib.ListN.{length, drop, replicate, length-append, length-replicate, replicate-append-replicate, drop-of-length-le}
-use Rattle.blocks.specs.Blocks.{timeLine, same, changed, change}
-use Rattle.blocks.specs.Wave.{next, after, changes, close}
-use Rattle.blocks.specs.declared.Signals.{Signals}
-use Rattle.blocks.specs.declared.Wave.{Wave}
-use Rattle.blocks.proofs.Laws.{two-pieces, after-both, still-rows}
+use Rattle.vcd.specs.Blocks.{timeLine, same, changed, change}
+use Rattle.vcd.specs.Wave.{next, after, changes, close}
 use Rattle.vcd.specs.Trace.{mostRows, Wired, AllWired}
 use Rattle.vcd.specs.Read.{starts}
-use Rattle.vcd.proofs.WiredAhead.{both-left, both-right}
+use Rattle.vcd.specs.declared.Signals.{Signals}
+use Rattle.vcd.specs.declared.Wave.{Wave}
+use Rattle.vcd.proofs.Laws.{two-pieces, after-both, still-rows}
 use Rattle.vcd.proofs.OwnText.{changed-own}
 use Rattle.vcd.proofs.FindsAll.{is-same}
+use Rattle.vcd.proofs.WiredAhead.{both-left, both-right}
 
 -- what begins with a is a and the rest
 pub starts-with : (a l : List ℕ) → starts a l ≡ true → l ≡ a ++ drop (length a) l

@@ -14,10 +14,10 @@ use Rattle.machine.specs.Names.{rowWords}
 use Rattle.machine.specs.Run.{wordsOf}
 use Rattle.machine.specs.declared.Row.{Row}
 use Rattle.machine.proofs.Every.{Says, says-ltb, says-not, or-either}
-use Rattle.blocks.specs.declared.Signals.{Signals}
 use Rattle.vcd.specs.Trace.{rowSignals, signalsIn, ofRow, ofRows, Wired, AllWired}
 use Rattle.vcd.specs.Write.{anyHigh, wrong}
 use Rattle.vcd.specs.Exact.{OfWords, AllBelow, TraceLendable, EachHasTrace, WrongExactly}
+use Rattle.vcd.specs.declared.Signals.{Signals}
 
 -- ---- neither of two tests
 neither-left : (a b : Bool) → (a || b) ≡ false → a ≡ false

@@ -7,10 +7,10 @@ use native.Mathlib.Omega.{arith}
 use borrow.Author.Tests.{eqb-true, ltb-true}
 use lib.Dec.{eqb, ltb}
 use lib.ListN.{getD, drop}
-use Rattle.blocks.specs.declared.Signals.{Signals}
+use Rattle.vcd.specs.Binary.{isBit}
 use Rattle.vcd.specs.Trace.{Wired}
-use Rattle.blocks.specs.Binary.{isBit}
 use Rattle.vcd.specs.Read.{bitsAhead, behindExc, signalsAhead}
+use Rattle.vcd.specs.declared.Signals.{Signals}
 
 -- ---- both of two tests
 pub both-left : (a b : Bool) → (a && b) ≡ true → a ≡ true

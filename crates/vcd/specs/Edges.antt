@@ -5,12 +5,12 @@ use mathlib.Core.Path.{_≡_}
 use mathlib.Core.List.{List, [], _∷_, _++_}
 use lib.ListN.{drop}
 use Rattle.scenario_lines.specs.Ascii.{bytes}
-use Rattle.blocks.specs.Blocks.{timeLine, opening, front}
-use Rattle.blocks.specs.Wave.{waveform}
-use Rattle.blocks.specs.declared.Signals.{Signals}
+use Rattle.vcd.specs.Blocks.{timeLine, opening, front}
+use Rattle.vcd.specs.Wave.{waveform}
 use Rattle.vcd.specs.Trace.{mostRows}
 use Rattle.vcd.specs.Write.{done, wrong, fileOf, written, writtenIn}
 use Rattle.vcd.specs.Read.{blockAt, None, Some, found, read, readIn}
+use Rattle.vcd.specs.declared.Signals.{Signals}
 
 abbrev pub none : Signals
 none = record { exc = 0; rc = 0 }

@@ -8,11 +8,11 @@ use lib.ListN.{length, getD, take, drop}
 use Rattle.machine.specs.Names.{rowWords}
 use Rattle.machine.specs.Run.{wordsOf}
 use Rattle.machine.specs.declared.Row.{Row}
-use Rattle.blocks.specs.Wave.{waveform}
-use Rattle.blocks.specs.declared.Signals.{Signals}
+use Rattle.vcd.specs.Wave.{waveform}
 use Rattle.vcd.specs.Trace.{signalsIn, ofRows, Lendable, words}
 use Rattle.vcd.specs.Write.{wrong, fileOf, written, writtenIn}
 use Rattle.vcd.specs.Read.{Some, found, read, readIn}
+use Rattle.vcd.specs.declared.Signals.{Signals}
 use Rattle.vcd.specs.declared.Answer.{Answer}
 
 -- ---- exactly the files

@@ -1,6 +1,10 @@
+pub mod Binary
+pub mod Blocks
+pub mod Wave
 pub mod Trace
 pub mod Write
-pub mod Walk
 pub mod Read
+pub mod Laws
+pub mod ReadBack
 pub mod Exact
 pub mod Edges

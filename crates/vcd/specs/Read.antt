@@ -9,13 +9,13 @@ use lib.Seq.{sets}
 use Rattle.scenario_lines.specs.Number.{more}
 use Rattle.scenario_lines.specs.declared.Parsed.{Parsed}
 use Rattle.scenario_lines.specs.declared.Parsed.the-variants.{No, Is}
-use Rattle.blocks.specs.Binary.{isBit}
-use Rattle.blocks.specs.Blocks.{timeLine, front, same, changed}
-use Rattle.blocks.specs.declared.Signals.{Signals}
+use Rattle.vcd.specs.Binary.{isBit}
+use Rattle.vcd.specs.Blocks.{timeLine, front, same, changed}
 use Rattle.vcd.specs.Trace.{mostRows, words}
 use Rattle.vcd.specs.Write.{noRoom, done, refusedBy}
+use Rattle.vcd.specs.declared.Signals.{Signals}
 use Rattle.vcd.specs.declared.Answer.{Answer}
-use Rattle.vcd.specs.declared.read.Block.{Block}
+use Rattle.vcd.specs.declared.Block.{Block}
 
 abbrev pub noWave : ℕ
 noWave = 42

@@ -4,7 +4,7 @@ use mathlib.Core.List.{List, [], _∷_}
 use lib.ListN.{length, getD, drop}
 use Rattle.machine.specs.Names.{rowWords}
 use Rattle.machine.specs.declared.Row.{Row}
-use Rattle.blocks.specs.declared.Signals.{Signals}
+use Rattle.vcd.specs.declared.Signals.{Signals}
 
 -- after each of n rows, whose words are thread, access, answer, got, exc, rc
 unfoldable pub rowSignals : ℕ → List ℕ → List Signals

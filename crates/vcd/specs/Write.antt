@@ -6,9 +6,9 @@ use lib.Dec.{eqb, ltb, leb}
 use lib.ListN.{length}
 use lib.Seq.{sets}
 use Rattle.machine.specs.Names.{rowWords}
-use Rattle.blocks.specs.Wave.{waveform}
-use Rattle.blocks.specs.declared.Signals.{Signals}
+use Rattle.vcd.specs.Wave.{waveform}
 use Rattle.vcd.specs.Trace.{signalsIn}
+use Rattle.vcd.specs.declared.Signals.{Signals}
 use Rattle.vcd.specs.declared.Answer.{Answer}
 
 abbrev pub noRoom : ℕ

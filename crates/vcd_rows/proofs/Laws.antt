@@ -10,12 +10,12 @@ use Rattle.machine.specs.Run.{wordsOf}
 use Rattle.machine.proofs.Words.{words-length}
 use Rattle.machine.specs.declared.Row.{Row}
 use Rattle.scenario.specs.Printed.{rowsIn}
-use Rattle.blocks.specs.Blocks.{front, change}
-use Rattle.blocks.specs.Wave.{atFirst, close, timeOf, counted, next, after, changes, waveform}
-use Rattle.blocks.specs.declared.Signals.{Signals}
-use Rattle.blocks.specs.declared.Wave.{Wave}
-use Rattle.blocks.proofs.Laws.{counted-is-next}
+use Rattle.vcd.specs.Blocks.{front, change}
+use Rattle.vcd.specs.Wave.{atFirst, close, timeOf, counted, next, after, changes, waveform}
 use Rattle.vcd.specs.Trace.{mostRows, rowSignals, AllWired, ofRow, ofRows}
+use Rattle.vcd.specs.declared.Signals.{Signals}
+use Rattle.vcd.specs.declared.Wave.{Wave}
+use Rattle.vcd.proofs.Laws.{counted-is-next}
 use Rattle.vcd.proofs.FindsAll.{finds-all}
 use Rattle.vcd_rows.specs.Waves.{leftBy, textBy, leftOf, storedOf}
 use Rattle.vcd_rows.specs.Laws.{SignalsOfRows, CutAnywhere, NoneLost, unlocked, Fit, WaveOfFile, WaveByReader, FoundInWave}

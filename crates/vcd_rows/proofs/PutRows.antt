@@ -11,12 +11,12 @@ use lib.Dec.{leb}
 use Rattle.machine.specs.Names.{rowWords}
 use Rattle.scenario_text.specs.Put.{Put, stored, placeAfter}
 use Rattle.scenario_text.proofs.Stores.{sets-append, puts}
-use Rattle.blocks.specs.Blocks.{change, changeBytes}
-use Rattle.blocks.specs.Wave.{timeOf, counted}
-use Rattle.blocks.specs.declared.Signals.{Signals}
-use Rattle.blocks.specs.declared.Wave.{Wave}
-use Rattle.blocks.proofs.Laws.{short}
+use Rattle.vcd.specs.Blocks.{change, changeBytes}
+use Rattle.vcd.specs.Wave.{timeOf, counted}
 use Rattle.vcd.specs.Trace.{rowSignals}
+use Rattle.vcd.specs.declared.Signals.{Signals}
+use Rattle.vcd.specs.declared.Wave.{Wave}
+use Rattle.vcd.proofs.Laws.{short}
 use Rattle.vcd_rows.specs.Waves.{signalsAt, leftBy, textBy}
 
 -- of n rows, the signals of those from the k-th on

@@ -11,12 +11,12 @@ use Rattle.machine.specs.declared.Row.{Row}
 use Rattle.scenario.specs.Printed.{rowsIn}
 use Rattle.scenario_read.specs.Feed.{World}
 use Rattle.scenario_promises.specs.Piped.{ComesTo}
-use Rattle.blocks.specs.Blocks.{front, changeBytes}
-use Rattle.blocks.specs.Wave.{atFirst, close, waveform}
-use Rattle.blocks.specs.declared.Signals.{Signals}
-use Rattle.blocks.specs.declared.Wave.{Wave}
+use Rattle.vcd.specs.Blocks.{front, changeBytes}
+use Rattle.vcd.specs.Wave.{atFirst, close, waveform}
 use Rattle.vcd.specs.Trace.{mostRows, rowSignals, ofRows}
 use Rattle.vcd.specs.Read.{Some, found}
+use Rattle.vcd.specs.declared.Signals.{Signals}
+use Rattle.vcd.specs.declared.Wave.{Wave}
 use Rattle.vcd_rows.specs.Waves.{leftBy, textBy, leftOf, storedOf}
 
 -- the signals of rows, out of their words

@@ -6,11 +6,11 @@ use lib.Dec.{leb}
 use lib.ListN.{length, getD}
 use lib.Seq.{sets}
 use Rattle.machine.specs.Names.{rowWords}
-use Rattle.blocks.specs.Blocks.{change, changeBytes}
-use Rattle.blocks.specs.Wave.{timeOf, counted}
-use Rattle.blocks.specs.declared.Signals.{Signals}
-use Rattle.blocks.specs.declared.Wave.{Wave}
+use Rattle.vcd.specs.Blocks.{change, changeBytes}
+use Rattle.vcd.specs.Wave.{timeOf, counted}
 use Rattle.vcd.specs.Trace.{rowSignals}
+use Rattle.vcd.specs.declared.Signals.{Signals}
+use Rattle.vcd.specs.declared.Wave.{Wave}
 use Rattle.vcd_rows.specs.declared.Left.{Left}
 
 -- of the row whose words start at p

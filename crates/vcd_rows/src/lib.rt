@@ -6,10 +6,10 @@ ghost use lib.ListN.{length};
 ghost use Rattle.scenario_text.specs.Put.{Put};
 ghost use Rattle.vcd.specs.Trace.{rowSignals};
 ghost use Rattle.vcd_rows.specs.Waves.{signalsAt, leftBy, textBy, leftOf, storedOf};
-use blocks::CHANGE;
-use blocks::Signals;
-use blocks::Wave;
 use machine::ROW_WORDS;
+use vcd::Signals;
+use vcd::Wave;
+use vcd_text::CHANGE;
 
 // Where the waveform stands after rows, and the place after what they changed.
 pub struct Left {
@@ -53,8 +53,8 @@ fn write_rows(wave: Wave, rows: &[u64], n: usize, out: &mut [u8], at: usize) -> 
     while k < n {
         let x = signals_at(rows, ROW_WORDS * k);
         let before = w.signals;
-        let v = blocks::counted(w, x);
-        p = blocks::put_change(out, p, v.time, before, x);
+        let v = vcd_text::counted(w, x);
+        p = vcd_text::put_change(out, p, v.time, before, x);
         w = v;
         k += 1;
     }

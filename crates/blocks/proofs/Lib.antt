@@ -1,5 +1,0 @@
-pub mod Bits
-pub mod Puts
-pub mod Parts
-pub mod Laws
-pub mod ReadBack

@@ -1,5 +1,0 @@
-pub mod Binary
-pub mod Blocks
-pub mod Wave
-pub mod Laws
-pub mod ReadBack

@@ -1,0 +1,9 @@
+pub mod TraceRows
+pub mod Walk
+pub mod WalkRows
+pub mod Written
+pub mod Gather
+pub mod Fills
+pub mod Scratch
+pub mod BlocksOn
+pub mod Passes

@@ -1,0 +1,12 @@
+-- `may_end` meets its contract. Assumes nothing.
+use Rattle.vcd_code.proofs.read.may_end.Statement.{statement}
+use Rattle.vcd_code.proofs.read.may_end.Tie as tie
+
+returns : tie.Need-returns
+returns c = rw (c .if1 .taken)
+
+returns-2 : tie.Need-returns-2
+returns-2 c = rw (c .if1 .left)
+
+pub may-end-spec : {M : Type 1} → statement M
+may-end-spec = tie.close (tie.spec returns returns-2)

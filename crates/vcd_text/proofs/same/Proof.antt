@@ -1,0 +1,14 @@
+-- `same` meets its contract. Assumes nothing.
+use borrow.Author.Tests.{ne-eqb, eq-eqb}
+use borrow.Author.Needs.{needs}
+use Rattle.vcd_text.proofs.same.Statement.{statement}
+use Rattle.vcd_text.proofs.same.Tie as tie
+
+returns : tie.Need-returns
+returns c = simp (ne-eqb _ _ (c .if1 .taken))
+
+returns-2 : tie.Need-returns-2
+returns-2 c = simp (eq-eqb _ _ (c .before .before .if1 .left))
+
+pub same-spec : {M : Type 1} → statement M
+same-spec = tie.close (tie.spec returns returns-2)

@@ -1,0 +1,24 @@
+-- `write_time` meets its contract: three stores, one behind the other. Assumes nothing.
+use Rattle.scenario_text.proofs.Stores.{both}
+use Rattle.vcd.specs.Blocks.{timeLine}
+use borrow.Author.Needs.{needs}
+use Rattle.vcd_text.proofs.write_time.Statement.{statement}
+use Rattle.vcd_text.proofs.write_time.Tie as tie
+
+returns : tie.Need-returns
+unfolding timeLine
+returns c =
+    both (c .before .before .before .before .before .before .before .before .before .before .before .write-bytes .ensures)
+    (both (c .before .before .before .before .before .before .before .write-number .ensures) (c .before .before .write-bytes2 .ensures))
+
+pub write-time-spec : {M : Type 1} → statement M
+write-time-spec =
+    tie.close
+    (tie.spec
+    (λ c. search needs)
+    (λ c κs. search needs)
+    (λ c κs. search needs)
+    (λ c. search needs)
+    (λ c κs. search needs)
+    (λ c. search needs)
+    returns)
