@@ -5,124 +5,76 @@
 // nothing of the list is passed over, and the number of rows shows where some of it is missing.
 ghost use mathlib.Core.Path.{_≡_};
 ghost use mathlib.Core.Bool.{true};
-ghost use Prim.Native.Nat.{ℕ, _≤_, _<_, max};
-ghost use lib.ListN.{length, getD};
 use atomic::CellId;
 use atomic::Count;
 use libc::STDIN_FILENO;
-use replay::Tally;
-
-// Room for a line: no row that can be read has more than 176 bytes.
-const ROOM: usize = 256;
-
-// The length of a line that is longer than the room.
-const TOO_LONG: usize = usize::MAX;
-
-struct State {
-    // How much of a line stands in its room.
-    length: usize,
-    tally: Tally,
-    at_end: bool,
-}
+use replay::lists;
+use replay::numbers;
+use replay::numbers::Read;
+use replay::reading;
+use replay::reading::Reading;
+use replay::tally;
+use replay::tally::Tally;
+use scenario_lines::Parsed;
 
 fn main() {
-    let mut line = [0u8; ROOM];
-    let mut state = State {
-        length: 0,
-        tally: replay::start(),
-        at_end: false,
-    };
+    let mut chunk = io::large_buffer();
+    let mut line = io::large_buffer();
+    let mut reading = reading::begin();
+    let mut tally = tally::start();
     // A proved loop has to end, and nothing says that the input does: it counts its turns down from a
     // number that no run uses up.
     let mut turns = u64::MAX;
-    while turns > 0 && !state.at_end {
-        state = read_some(&mut line, state);
+    while turns > 0 && !reading.over {
+        reading = read_on(&mut chunk, &mut line, reading);
+        tally = on_line(&line, reading, tally);
         turns -= 1;
     }
-    replay::report(finish(state));
+    report(reading, tally);
 }
 
-// Reads once. A read that fails ends the list, and the number of rows then shows it.
-fn read_some(line: &mut [u8; ROOM], state: State) -> State {
-    let mut chunk = io::large_buffer();
-    let got = libc::read(STDIN_FILENO, &mut chunk);
-    let n = io::count(got, &chunk);
-    if n == 0 {
-        let tally = state.tally;
-        return State {
-            length: state.length,
-            tally,
-            at_end: true,
-        };
+// A chunk where the last one is used up, else bytes of it up to a line's end.
+fn read_on(chunk: &mut [u8; 65536], line: &mut [u8; 65536], reading: Reading) -> Reading {
+    if !reading::is_used_up(reading) {
+        return reading::take_line(line, chunk, reading);
     }
-    feed(&chunk[..n], line, state)
-}
-
-// A line may end in a later chunk, so its bytes gather in their own room.
-fn feed(chunk: &[u8], line: &mut [u8; ROOM], state: State) -> State {
-    let mut now = state;
-    let mut i = 0;
-    while i < chunk.len() {
-        now = push(line, now, chunk[i]);
-        i += 1;
-    }
-    now
-}
-
-// A byte that finds no room makes the line too long, and no later byte mends that.
-fn push(line: &mut [u8; ROOM], state: State, b: u8) -> State {
-    let n = state.length;
-    let tally = state.tally;
-    if b == b'\n' {
-        return State {
-            length: 0,
-            tally: end_line(tally, line, n),
-            at_end: false,
-        };
-    }
-    if n >= ROOM {
-        return State {
-            length: TOO_LONG,
-            tally,
-            at_end: false,
-        };
-    }
-    line[n] = b;
-    State {
-        length: n + 1,
-        tally,
-        at_end: false,
-    }
+    let got = libc::read(STDIN_FILENO, chunk);
+    let n = io::count(got, chunk);
+    reading::after_read(reading, n)
 }
 
 // The first line is the header, which is no row. Any other first line counts as one that differs.
-fn end_line(tally: Tally, line: &[u8], n: usize) -> Tally {
+// A row is below 200 bytes, so that the front of a line that has no room is none.
+fn on_line(line: &[u8; 65536], reading: Reading, tally: Tally) -> Tally {
     let header = b"width,operation,atomic,permission,value,a,b,number,arm,got,left";
-    if n > line.len() {
-        return replay::count(tally, false);
+    if !reading.done {
+        return tally;
     }
-    let text = &line[0..n];
+    let text = reading::text(line, reading);
     if tally.line > 1 {
-        return replay::count(tally, agrees(text));
+        return tally::count(tally, agrees(text));
     }
     if check::same(text, header) {
-        return replay::pass(tally);
+        return tally::pass(tally);
     }
-    replay::count(tally, false)
+    tally::count(tally, false)
 }
 
-// A last line with no break may be cut short.
-fn finish(state: State) -> Tally {
-    let tally = state.tally;
-    if state.length == 0 {
-        tally
+// A last line with no break may be cut short, and counts as different.
+fn report(reading: Reading, tally: Tally) {
+    let last = if reading::is_cut(reading) {
+        tally::count(tally, false)
     } else {
-        replay::count(tally, false)
-    }
+        tally
+    };
+    tally::report(last);
 }
 
 // A row of the list: read, replayed and compared. Its fields are the width (64, 8, or 1 for bool), the
 // operation's name, the five numbers of Input and the first four of Outcome, with a comma between.
+
+// How many numbers follow the operation's name.
+const NUMBERS: usize = 9;
 
 // What an operation is called on. An operand that it lacks is 0.
 struct Input {
@@ -152,143 +104,57 @@ enum Replayed {
     Broken,
 }
 
-struct Row {
-    width: u64,
-    operation: Operation,
-    input: Input,
-    outcome: Outcome,
-}
-
-enum Parsed {
-    Whole(Row),
-    Broken,
-}
-
-// A part of a row, and the position after it.
-enum NamePart {
-    Is(Operation, usize),
-    Broken,
-}
-
-enum InputPart {
-    Is(Input, usize),
-    Broken,
-}
-
-enum OutcomePart {
-    Is(Outcome, usize),
-    Broken,
-}
-
 // Whether the line is a row, and the atomic answers as the row says.
 fn agrees(line: &[u8]) -> bool {
-    let Parsed::Whole(row) = parse(line) else {
+    let first = lists::find(line, 0, b',');
+    if first >= line.len() {
+        return false;
+    }
+    let second = lists::find(line, first + 1, b',');
+    if second >= line.len() {
+        return false;
+    }
+    let Parsed::Is(width) = numbers::number(lists::part(line, 0, first)) else {
         return false;
     };
-    let operation = row.operation;
-    let input = row.input;
-    let expected = row.outcome;
-    let Replayed::Seen(seen) = replay(row.width, operation, input) else {
+    let Named::Is(operation) = by_name(lists::part(line, first + 1, second)) else {
+        return false;
+    };
+    is_row(width, operation, lists::part(line, second + 1, line.len()))
+}
+
+// What follows the name is nine numbers and nothing more.
+fn is_row(width: u64, operation: Operation, text: &[u8]) -> bool {
+    let mut f = [0; NUMBERS];
+    let Read::All(n) = numbers::numbers(text, &mut f) else {
+        return false;
+    };
+    n == NUMBERS && is_made(width, operation, f)
+}
+
+// No operation changes the permission's identity, so the row expects the one that went in.
+fn is_made(width: u64, operation: Operation, f: [u64; NUMBERS]) -> bool {
+    let input = Input {
+        atomic: f[0],
+        permission: f[1],
+        value: f[2],
+        a: f[3],
+        b: f[4],
+    };
+    let expected = Outcome {
+        number: f[5],
+        arm: f[6],
+        got: f[7],
+        left: f[8],
+        permission: f[1],
+    };
+    let Replayed::Seen(seen) = replay_on(width, operation, input) else {
         return false;
     };
     takes(operation, input.a, input.b) && same(expected, seen)
 }
 
-// A row is its eleven fields and nothing more.
-fn parse(line: &[u8]) -> Parsed {
-    let Read::Number(width, at) = number(line, 0) else {
-        return Parsed::Broken;
-    };
-    let NamePart::Is(operation, at) = name_part(line, at) else {
-        return Parsed::Broken;
-    };
-    let InputPart::Is(input, at) = input_part(line, at) else {
-        return Parsed::Broken;
-    };
-    let OutcomePart::Is(outcome, at) = outcome_part(line, at, input.permission) else {
-        return Parsed::Broken;
-    };
-    if at != line.len() {
-        return Parsed::Broken;
-    }
-    Parsed::Whole(Row {
-        width,
-        operation,
-        input,
-        outcome,
-    })
-}
-
-fn name_part(line: &[u8], at: usize) -> NamePart {
-    if at >= line.len() {
-        return NamePart::Broken;
-    }
-    if line[at] != b',' {
-        return NamePart::Broken;
-    }
-    let from = at + 1;
-    let to = find(line, from, b',');
-    let Named::Is(operation) = by_name(&line[from..to]) else {
-        return NamePart::Broken;
-    };
-    NamePart::Is(operation, to)
-}
-
-fn input_part(line: &[u8], at: usize) -> InputPart {
-    let Read::Number(atomic, at) = field(line, at) else {
-        return InputPart::Broken;
-    };
-    let Read::Number(permission, at) = field(line, at) else {
-        return InputPart::Broken;
-    };
-    let Read::Number(value, at) = field(line, at) else {
-        return InputPart::Broken;
-    };
-    let Read::Number(a, at) = field(line, at) else {
-        return InputPart::Broken;
-    };
-    let Read::Number(b, at) = field(line, at) else {
-        return InputPart::Broken;
-    };
-    InputPart::Is(
-        Input {
-            atomic,
-            permission,
-            value,
-            a,
-            b,
-        },
-        at,
-    )
-}
-
-// No operation changes the permission's identity, so the row expects the one that went in.
-fn outcome_part(line: &[u8], at: usize, permission: u64) -> OutcomePart {
-    let Read::Number(number, at) = field(line, at) else {
-        return OutcomePart::Broken;
-    };
-    let Read::Number(arm, at) = field(line, at) else {
-        return OutcomePart::Broken;
-    };
-    let Read::Number(got, at) = field(line, at) else {
-        return OutcomePart::Broken;
-    };
-    let Read::Number(left, at) = field(line, at) else {
-        return OutcomePart::Broken;
-    };
-    OutcomePart::Is(
-        Outcome {
-            number,
-            arm,
-            got,
-            left,
-            permission,
-        },
-        at,
-    )
-}
-
-fn replay(width: u64, operation: Operation, input: Input) -> Replayed {
+fn replay_on(width: u64, operation: Operation, input: Input) -> Replayed {
     match width {
         64 => replay_u64(operation, input),
         8 => replay_u8(operation, input),
@@ -644,90 +510,5 @@ fn takes(operation: Operation, a: u64, b: u64) -> bool {
         Operation::CompareExchange => true,
         Operation::CompareExchangeWeak => true,
         _ => b == 0,
-    }
-}
-
-// Places and numbers in text, each read at a position of a slice.
-
-// A number and the position after it.
-enum Read {
-    Number(u64, usize),
-    Broken,
-}
-
-// The position of the first byte b at or after from, or where the text ends.
-fn find(s: &[u8], from: usize, b: u8) -> usize
-    ensures within { λ r. ⌜ (from ≤ r) × (r ≤ max from (length (now (s .entry)))) ⌝ }
-    ensures before { λ r. ⌜ ((k : ℕ) → k < r → from ≤ k → getD (now (s .entry)) k 0 ≡ b → ⊥) ⌝ }
-    ensures found { λ r. ⌜ (r < length (now (s .entry)) → getD (now (s .entry)) r 0 ≡ b) ⌝ }
-{
-    let mut i = from;
-    while i < s.len() {
-        if s[i] == b {
-            return i;
-        }
-        i += 1;
-    }
-    i
-}
-
-// The number in the field that the comma at `at` opens.
-fn field(s: &[u8], at: usize) -> Read {
-    if at < s.len() {
-        if s[at] == b',' {
-            return number(s, at + 1);
-        }
-    }
-    Read::Broken
-}
-
-// The number that starts at `at`: plain decimal below 2^64, with no needless zero.
-fn number(s: &[u8], at: usize) -> Read {
-    let mut i = at;
-    let mut n: u64 = 0;
-    while i < s.len() {
-        let d = digit(s[i]);
-        if d > 9 {
-            break;
-        }
-        let Grown::Number(more) = grow(n, d, i == at) else {
-            return Read::Broken;
-        };
-        n = more;
-        i += 1;
-    }
-    if i == at {
-        return Read::Broken;
-    }
-    Read::Number(n, i)
-}
-
-// A number with one digit more.
-enum Grown {
-    Number(u64),
-    Broken,
-}
-
-// A first digit 0 is the whole number, so a digit after it is refused, and so is one with which the
-// number would leave 64 bits.
-fn grow(n: u64, d: u64, is_first: bool) -> Grown {
-    if n == 0 && !is_first {
-        return Grown::Broken;
-    }
-    if d > 9 {
-        return Grown::Broken;
-    }
-    if n > (u64::MAX - d) / 10 {
-        return Grown::Broken;
-    }
-    Grown::Number(n * 10 + d)
-}
-
-// What a byte counts as a digit, or 10 where it is none.
-fn digit(b: u8) -> u64 {
-    if b'0' <= b && b <= b'9' {
-        (b - b'0') as u64
-    } else {
-        10
     }
 }

@@ -14,116 +14,82 @@ use cell::value;
 use cell::value::Content;
 use cell::value::Perm;
 use libc::STDIN_FILENO;
-use replay::Tally;
+use replay::numbers;
+use replay::numbers::Read;
+use replay::reading;
+use replay::reading::Reading;
+use replay::tally;
+use replay::tally::Tally;
 
 struct State {
-    row: Row,
     cells: Cells,
     tally: Tally,
-    at_end: bool,
 }
 
 fn main() {
+    let mut chunk = io::large_buffer();
+    let mut line = io::large_buffer();
+    let mut reading = reading::begin();
     let mut state = State {
-        row: start_row(),
         cells: start_cells(),
-        tally: replay::start(),
-        at_end: false,
+        tally: tally::start(),
     };
     // A proved loop has to end, and nothing says that the input does: it counts its turns down from a number that no run uses up.
     let mut turns = u64::MAX;
-    while turns > 0 && !state.at_end {
-        state = read_some(state);
+    while turns > 0 && !reading.over {
+        reading = read_on(&mut chunk, &mut line, reading);
+        state = on_line(&line, reading, state);
         turns -= 1;
     }
-    report(state);
-}
-
-// Reads once. A read that fails ends the list, and the number of rows then shows it.
-fn read_some(state: State) -> State {
-    let mut chunk = io::large_buffer();
-    let got = libc::read(STDIN_FILENO, &mut chunk);
-    let n = io::count(got, &chunk);
-    if n == 0 {
-        return stop(state);
-    }
-    feed(&chunk[..n], state)
-}
-
-fn stop(state: State) -> State {
-    let row = state.row;
-    let cells = state.cells;
     let tally = state.tally;
-    State {
-        row,
-        cells,
-        tally,
-        at_end: true,
-    }
+    report(reading, tally);
 }
 
-fn feed(chunk: &[u8], state: State) -> State {
-    let mut now = state;
-    let mut i = 0;
-    while i < chunk.len() {
-        now = push(now, chunk[i]);
-        i += 1;
+// A chunk where the last one is used up, else bytes of it up to a line's end.
+fn read_on(chunk: &mut [u8; 65536], line: &mut [u8; 65536], reading: Reading) -> Reading {
+    if !reading::is_used_up(reading) {
+        return reading::take_line(line, chunk, reading);
     }
-    now
-}
-
-fn push(state: State, b: u8) -> State {
-    if b == b'\n' {
-        return end_line(state);
-    }
-    let row = state.row;
-    let cells = state.cells;
-    let tally = state.tally;
-    State {
-        row: push_byte(row, b),
-        cells,
-        tally,
-        at_end: false,
-    }
+    let got = libc::read(STDIN_FILENO, chunk);
+    let n = io::count(got, chunk);
+    reading::after_read(reading, n)
 }
 
 // The first line is the header. A row in its place would be missing from the number of rows.
-fn end_line(state: State) -> State {
+fn on_line(line: &[u8; 65536], reading: Reading, state: State) -> State {
     let cells = state.cells;
     let tally = state.tally;
+    if !reading.done {
+        return state;
+    }
     if tally.line == 1 {
         return State {
-            row: start_row(),
             cells,
-            tally: replay::pass(tally),
-            at_end: false,
+            tally: tally::pass(tally),
         };
     }
-    let row = state.row;
-    let whole = end_field(row);
-    let after = replay(cells, whole);
+    let after = replay_text(cells, reading::text(line, reading));
     let left = after.cells;
     State {
-        row: start_row(),
         cells: left,
-        tally: replay::count(tally, after.is_equal),
-        at_end: false,
+        tally: tally::count(tally, after.is_equal),
     }
 }
 
 // A last line with no break may be cut short, and counts as different.
-fn report(state: State) {
-    let row = state.row;
-    let tally = state.tally;
-    let last = if is_started(row) {
-        replay::count(tally, false)
+fn report(reading: Reading, tally: Tally) {
+    let last = if reading::is_cut(reading) {
+        tally::count(tally, false)
     } else {
         tally
     };
-    replay::report(last);
+    tally::report(last);
 }
 
 // A row of the list, replayed on the value cell or the InvCell and compared.
+
+// The call, its operands, and what it comes to.
+const FIELDS: usize = 9;
 
 const PUT: u64 = 1;
 
@@ -189,8 +155,26 @@ fn no_cell() -> Made {
     Made::NotMade(Refusal::NotPermitted)
 }
 
-fn replay(cells: Cells, row: Row) -> Replayed {
-    let f = row.fields;
+// A line that is no row makes no call. A row is below 200 bytes, so that the front of a line that has no room is none either.
+fn replay_text(cells: Cells, text: &[u8]) -> Replayed {
+    let mut f = [0; FIELDS];
+    let Read::All(n) = numbers::numbers(text, &mut f) else {
+        return broken(cells);
+    };
+    if n != FIELDS {
+        return broken(cells);
+    }
+    replay_row(cells, f)
+}
+
+fn broken(cells: Cells) -> Replayed {
+    Replayed {
+        cells,
+        is_equal: false,
+    }
+}
+
+fn replay_row(cells: Cells, f: [u64; FIELDS]) -> Replayed {
     let call = Call {
         code: f[0],
         a: f[1],
@@ -205,14 +189,11 @@ fn replay(cells: Cells, row: Row) -> Replayed {
         kept: f[8],
     };
     let Seen::Told(left, told) = make(cells, call) else {
-        return Replayed {
-            cells,
-            is_equal: false,
-        };
+        return broken(cells);
     };
     Replayed {
         cells: left,
-        is_equal: is_whole(row) && is_same(told, expected),
+        is_equal: is_same(told, expected),
     }
 }
 
@@ -367,97 +348,4 @@ fn predicate(cells: Cells, call: Call) -> Seen {
 
 fn bit(b: bool) -> u64 {
     if b { 1 } else { 0 }
-}
-
-// A row of the list, read byte by byte: nine numbers between commas, plain decimal below 2^64 with no needless zero.
-
-const FIELDS: usize = 9;
-
-// A row as far as it is read.
-struct Row {
-    fields: [u64; FIELDS],
-    // How many fields are whole.
-    count: usize,
-    // The field under way.
-    number: u64,
-    has_digit: bool,
-    is_broken: bool,
-}
-
-fn start_row() -> Row {
-    Row {
-        fields: [0; FIELDS],
-        count: 0,
-        number: 0,
-        has_digit: false,
-        is_broken: false,
-    }
-}
-
-// A byte other than the line's break.
-fn push_byte(row: Row, b: u8) -> Row {
-    if b == b',' {
-        return end_field(row);
-    }
-    if b'0' <= b && b <= b'9' {
-        return push_digit(row, (b - b'0') as u64);
-    }
-    broken(row)
-}
-
-fn push_digit(row: Row, d: u64) -> Row {
-    let n = row.number;
-    let is_needless = row.has_digit && n == 0;
-    if is_needless || d > 9 {
-        return broken(row);
-    }
-    if n > (u64::MAX - d) / 10 {
-        return broken(row);
-    }
-    let fields = row.fields;
-    Row {
-        fields,
-        count: row.count,
-        number: n * 10 + d,
-        has_digit: true,
-        is_broken: row.is_broken,
-    }
-}
-
-fn end_field(row: Row) -> Row {
-    let at = row.count;
-    if !row.has_digit {
-        return broken(row);
-    }
-    if at >= FIELDS {
-        return broken(row);
-    }
-    let mut fields = row.fields;
-    fields[at] = row.number;
-    Row {
-        fields,
-        count: at + 1,
-        number: 0,
-        has_digit: false,
-        is_broken: row.is_broken,
-    }
-}
-
-fn broken(row: Row) -> Row {
-    let fields = row.fields;
-    Row {
-        fields,
-        count: row.count,
-        number: 0,
-        has_digit: false,
-        is_broken: true,
-    }
-}
-
-fn is_started(row: Row) -> bool {
-    row.has_digit || row.is_broken || row.count > 0
-}
-
-fn is_whole(row: Row) -> bool {
-    row.count == FIELDS && !row.is_broken
 }

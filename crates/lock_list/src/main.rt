@@ -3,8 +3,6 @@
 // oracle/lock.rs makes the list and says what its fields are: each line is one call with all that is lent and all that comes back. The
 // last lines are wrong on purpose, and each of them has to be found. Nothing of the list is passed over: a line that cannot be read, and
 // a state that the types do not have, are counted too.
-ghost use mathlib.Core.Bool.{true};
-ghost use mathlib.Core.Path.{_≡_};
 use atomic::Count;
 use cell::pred;
 use cell::pred::Named;
@@ -12,7 +10,6 @@ use cell::pred::Pred;
 use cell::value;
 use cell::value::Content;
 use libc::STDIN_FILENO;
-use libc::STDOUT_FILENO;
 use lock::drain;
 use lock::drain::DrainReturn;
 use lock::run;
@@ -26,219 +23,84 @@ use machine::Place;
 use machine::Rec;
 use machine::Refusal;
 use machine::Start;
-use replay::Tally;
-use scenario_lines::Parsed;
-use scenario_lines::number;
-
-// What a line that is wrong on purpose is there for.
-const WRONG: u64 = 999;
-
-struct Counts {
-    tally: Tally,
-    unreadable: u64,
-    no_such_state: u64,
-    // Lines that are wrong on purpose and were found so.
-    found: u64,
-}
-
-struct Reading {
-    row: Row,
-    counts: Counts,
-    at_end: bool,
-}
+use replay::lists;
+use replay::lists::is_same;
+use replay::lists::word;
+use replay::numbers;
+use replay::numbers::Read;
+use replay::reading;
+use replay::reading::Reading;
+use replay::tally;
+use replay::tally::Tally;
+use replay::tally::Verdict;
 
 fn main() {
-    let mut line = [0u64; ROOM];
-    let mut now = Reading {
-        row: start_row(),
-        counts: no_counts(),
-        at_end: false,
-    };
+    let mut chunk = io::large_buffer();
+    let mut line = io::large_buffer();
+    let mut reading = reading::begin();
+    let mut tally = tally::start();
     // A proved loop has to end, and nothing says that the input does: it counts its turns down from a number that no run uses up.
     let mut turns = u64::MAX;
-    while turns > 0 && !now.at_end {
-        now = read_some(&mut line, now);
+    while turns > 0 && !reading.over {
+        reading = read_on(&mut chunk, &mut line, reading);
+        tally = on_line(&line, reading, tally);
         turns -= 1;
     }
-    report(now);
+    report(reading, tally);
 }
 
-fn no_counts() -> Counts {
-    Counts {
-        tally: replay::start(),
-        unreadable: 0,
-        no_such_state: 0,
-        found: 0,
+// A chunk where the last one is used up, else bytes of it up to a line's end. A read that fails ends the list.
+fn read_on(chunk: &mut [u8; 65536], line: &mut [u8; 65536], reading: Reading) -> Reading {
+    if !reading::is_used_up(reading) {
+        return reading::take_line(line, chunk, reading);
     }
-}
-
-// Reads once. A read that fails ends the list, and the number of rows then shows it.
-fn read_some(line: &mut [u64; ROOM], now: Reading) -> Reading {
-    let mut chunk = io::large_buffer();
-    let got = libc::read(STDIN_FILENO, &mut chunk);
-    let n = io::count(got, &chunk);
-    if n == 0 {
-        return stop(now);
-    }
-    feed(&chunk[..n], line, now)
-}
-
-fn stop(now: Reading) -> Reading {
-    let row = now.row;
-    let counts = now.counts;
-    Reading {
-        row,
-        counts,
-        at_end: true,
-    }
-}
-
-// A line may end in a later chunk, so its numbers gather in their own room.
-fn feed(chunk: &[u8], line: &mut [u64; ROOM], from: Reading) -> Reading {
-    let mut now = from;
-    let mut i = 0;
-    while i < chunk.len() {
-        now = push(line, now, chunk[i]);
-        i += 1;
-    }
-    now
-}
-
-fn push(line: &mut [u64; ROOM], now: Reading, b: u8) -> Reading {
-    let row = now.row;
-    let counts = now.counts;
-    if b == b'\n' {
-        let whole = end_field(line, row);
-        return Reading {
-            row: start_row(),
-            counts: end_line(line, whole, counts),
-            at_end: false,
-        };
-    }
-    Reading {
-        row: push_byte(line, row, b),
-        counts,
-        at_end: false,
-    }
+    let got = libc::read(STDIN_FILENO, chunk);
+    let n = io::count(got, chunk);
+    reading::after_read(reading, n)
 }
 
 // The first line is the header. A call in its place would be missing from the number of rows.
-fn end_line(line: &[u64], row: Row, counts: Counts) -> Counts {
-    let tally = counts.tally;
+fn on_line(line: &[u8; 65536], reading: Reading, tally: Tally) -> Tally {
+    if !reading.done {
+        return tally;
+    }
     if tally.line == 1 {
-        return passed(counts);
+        return tally::pass(tally);
     }
-    let n = row.count;
-    if n > line.len() {
-        return unreadable(counts);
-    }
-    let words = &line[0..n];
-    let verdict = if row.is_broken {
-        Verdict::Unreadable
+    let text = reading::text(line, reading);
+    let verdict = if reading::is_whole(line, reading) {
+        verdict_on(text)
     } else {
-        replay(words)
+        Verdict::Unreadable
     };
-    if word(words, 0) == WRONG {
-        return on_wrong(counts, verdict);
-    }
-    on_verdict(counts, verdict)
-}
-
-fn on_verdict(counts: Counts, verdict: Verdict) -> Counts {
-    match verdict {
-        Verdict::Equal => counted(counts, true),
-        Verdict::Different => counted(counts, false),
-        Verdict::Unreadable => unreadable(counts),
-        Verdict::NoSuchState => no_such_state(counts),
-    }
-}
-
-// A wrong line that agrees differs from what it is there for, and is named as a line that differs.
-fn on_wrong(counts: Counts, verdict: Verdict) -> Counts {
-    match verdict {
-        Verdict::Equal => counted(counts, false),
-        Verdict::Different => found(counts, b"wrong on purpose, different at line "),
-        Verdict::Unreadable => found(counts, b"wrong on purpose, unreadable at line "),
-        Verdict::NoSuchState => counted(counts, false),
-    }
-}
-
-fn counted(counts: Counts, is_equal: bool) -> Counts {
-    let tally = counts.tally;
-    Counts {
-        tally: replay::count(tally, is_equal),
-        unreadable: counts.unreadable,
-        no_such_state: counts.no_such_state,
-        found: counts.found,
-    }
-}
-
-// A line that is no row, or none of a call that is made.
-fn passed(counts: Counts) -> Counts {
-    let tally = counts.tally;
-    Counts {
-        tally: replay::pass(tally),
-        unreadable: counts.unreadable,
-        no_such_state: counts.no_such_state,
-        found: counts.found,
-    }
-}
-
-fn unreadable(counts: Counts) -> Counts {
-    let tally = counts.tally;
-    print(b"unreadable at line ", tally.line);
-    let mut after = passed(counts);
-    after.unreadable = std::num::wrapping_add_u64(counts.unreadable, 1);
-    after
-}
-
-fn no_such_state(counts: Counts) -> Counts {
-    let mut after = passed(counts);
-    after.no_such_state = std::num::wrapping_add_u64(counts.no_such_state, 1);
-    after
-}
-
-fn found(counts: Counts, how: &[u8]) -> Counts {
-    let tally = counts.tally;
-    print(how, tally.line);
-    let mut after = passed(counts);
-    after.found = std::num::wrapping_add_u64(counts.found, 1);
-    after
+    tally::on_verdict(tally, numbers::is_wrong(text), verdict)
 }
 
 // A last line with no break may be cut short, and cannot be read.
-fn report(now: Reading) {
-    let row = now.row;
-    let counts = now.counts;
-    let last = if is_started(row) {
-        unreadable(counts)
+fn report(reading: Reading, tally: Tally) {
+    let last = if reading::is_cut(reading) {
+        tally::on_verdict(tally, false, Verdict::Unreadable)
     } else {
-        counts
+        tally
     };
-    let tally = last.tally;
-    replay::report(tally);
-    print(b"unreadable ", last.unreadable);
-    print(b"no such state ", last.no_such_state);
-    print(b"wrong on purpose and found ", last.found);
+    tally::report_outside(last, b"no such state ");
 }
 
-fn print(what: &[u8], n: u64) {
-    io::write_all(STDOUT_FILENO, what);
-    io::print_decimal(STDOUT_FILENO, n);
-    io::write_all(STDOUT_FILENO, b"\n");
+fn verdict_on(text: &[u8]) -> Verdict {
+    let mut line = [0; ROOM];
+    let Read::All(n) = numbers::numbers(text, &mut line) else {
+        return Verdict::Unreadable;
+    };
+    replay_line(lists::words(&line, 0, n))
 }
 
 // The call of a line, made by value and with the records lent, and compared with what the line says of it.
 
+// Room for the numbers of a line. A line of the list is below 5,200 bytes, and a number takes two of them at least.
+const ROOM: usize = 2600;
+
 // Room for a trace list. The longest of the list has 68 words; a line with a longer one than the room counts as different.
 const TRACE: usize = 128;
-
-enum Verdict {
-    Equal,
-    Different,
-    Unreadable,
-    NoSuchState,
-}
 
 // What a call comes to. Where a setup is refused there is no lock, and the one here does not count.
 struct Told {
@@ -250,14 +112,14 @@ struct Told {
     recs: [Rec; 16],
 }
 
-fn replay(line: &[u64]) -> Verdict {
+fn replay_line(line: &[u64]) -> Verdict {
     let p = parts_of(line);
     if !are_whole(line, p) {
         return Verdict::Unreadable;
     }
     match lock_before(line, p) {
         Before::Is(lock) => replay_call(line, p, call_on(line, p, lock)),
-        Before::NoSuchState => Verdict::NoSuchState,
+        Before::NoSuchState => Verdict::Outside,
         Before::Broken => Verdict::Unreadable,
     }
 }
@@ -265,9 +127,9 @@ fn replay(line: &[u64]) -> Verdict {
 // By value, and with the records lent.
 fn replay_call(line: &[u64], p: Parts, given: Given) -> Verdict {
     if agrees(line, p, given, false) && agrees(line, p, given, true) {
-        Verdict::Equal
+        Verdict::Agrees
     } else {
-        Verdict::Different
+        Verdict::Differs
     }
 }
 
@@ -476,8 +338,8 @@ fn is_told(line: &[u64], p: Parts, given: Given, told: Told) -> bool {
         told.done,
     ];
     let recs = told.recs;
-    let recs_after = part(line, p.recs_after, p.trace_after);
-    is_same(&answer, part(line, p.answer, p.lock_after))
+    let recs_after = lists::words(line, p.recs_after, p.trace_after);
+    is_same(&answer, lists::words(line, p.answer, p.lock_after))
         && is_lock(line, p, told)
         && word(recs_after, 0) == given.count
         && are_records(recs, recs_after)
@@ -485,30 +347,14 @@ fn is_told(line: &[u64], p: Parts, given: Given, told: Told) -> bool {
 
 // Where no lock is made the list has zeros.
 fn is_lock(line: &[u64], p: Parts, told: Told) -> bool {
-    let after = part(line, p.lock_after, p.recs_after);
+    let after = lists::words(line, p.lock_after, p.recs_after);
     let zeros = [0u64; LOCK];
     if !told.is_made {
         return is_same(&zeros, after);
     }
     let lock = told.lock;
-    let numbers = numbers_of(lock, part(line, p.lock, p.recs));
+    let numbers = numbers_of(lock, lists::words(line, p.lock, p.recs));
     is_same(&numbers, after)
-}
-
-fn is_same(s: &[u64], t: &[u64]) -> bool
-    ensures { λ r. ⌜ (r ≡ true → now (s .entry) ≡ now (t .entry)) × (now (s .entry) ≡ now (t .entry) → r ≡ true) ⌝ }
-{
-    if s.len() != t.len() {
-        return false;
-    }
-    let mut i = 0;
-    while i < s.len() {
-        if s[i] != t[i] {
-            return false;
-        }
-        i += 1;
-    }
-    true
 }
 
 // The state that a line has before its call, and what a call leaves, as the numbers of the list.
@@ -544,8 +390,8 @@ enum Before {
 
 fn lock_before(line: &[u64], p: Parts) -> Before {
     let call = word(line, 1);
-    let numbers = part(line, p.lock, p.recs);
-    let recs = part(line, p.recs, p.lens);
+    let numbers = lists::words(line, p.lock, p.recs);
+    let recs = lists::words(line, p.recs, p.lens);
     if !is_call(call) || !are_bits(numbers) || !are_places(recs) {
         return Before::Broken;
     }
@@ -559,7 +405,7 @@ fn lock_before(line: &[u64], p: Parts) -> Before {
 }
 
 fn call_on(line: &[u64], p: Parts, lock: Lock) -> Given {
-    let numbers = part(line, p.recs, p.lens);
+    let numbers = lists::words(line, p.recs, p.lens);
     Given {
         call: word(line, 1),
         lock,
@@ -657,10 +503,10 @@ fn recs_of(numbers: &[u64]) -> [Rec; 16] {
 // The numbers of record i; none where the list has no such record.
 fn rec_part(numbers: &[u64], i: usize) -> &[u64] {
     if i >= MOST {
-        return part(numbers, 0, 0);
+        return lists::words(numbers, 0, 0);
     }
     let from = RECORD * i + 1;
-    part(numbers, from, from + RECORD)
+    lists::words(numbers, from, from + RECORD)
 }
 
 fn rec_of(numbers: &[u64]) -> Rec {
@@ -816,25 +662,9 @@ fn are_whole(line: &[u64], p: Parts) -> bool {
     p.end == line.len()
 }
 
-// The number at a place, 0 where there is none.
-fn word(line: &[u64], at: usize) -> u64 {
-    if at < line.len() { line[at] } else { 0 }
-}
-
-// The numbers from a place up to another, none where that is past the end.
-fn part(line: &[u64], from: usize, to: usize) -> &[u64] {
-    if to > line.len() {
-        return &line[0..0];
-    }
-    if from > to {
-        return &line[0..0];
-    }
-    &line[from..to]
-}
-
 // The elements of a LIST that starts at a place and ends at another.
 fn list(line: &[u64], from: usize, to: usize) -> &[u64] {
-    part(line, skip(line, from, 1), to)
+    lists::words(line, skip(line, from, 1), to)
 }
 
 fn lens_of(line: &[u64], p: Parts) -> &[u64] {
@@ -886,82 +716,4 @@ fn past_records(line: &[u64], at: usize) -> usize {
         return PAST;
     }
     skip(line, skip(line, at, 1), n as usize * RECORD)
-}
-
-// A line of the list, read byte by byte: numbers between commas, plain decimal below 2^64 with no needless zero.
-
-// Room for the numbers of a line. A line of the list is below 5,200 bytes, and a number takes two of them at least.
-const ROOM: usize = 2600;
-
-// A line as far as it is read. Its whole numbers stand in the room.
-struct Row {
-    count: usize,
-    // The number under way.
-    number: u64,
-    has_digit: bool,
-    is_broken: bool,
-}
-
-fn start_row() -> Row {
-    Row {
-        count: 0,
-        number: 0,
-        has_digit: false,
-        is_broken: false,
-    }
-}
-
-// A byte other than the line's break.
-fn push_byte(line: &mut [u64; ROOM], row: Row, b: u8) -> Row {
-    if b == b',' {
-        end_field(line, row)
-    } else {
-        push_digit(row, b)
-    }
-}
-
-// A first digit 0 is the whole number.
-fn push_digit(row: Row, b: u8) -> Row {
-    if row.has_digit && row.number == 0 {
-        return broken(row);
-    }
-    match number::one_more(row.number, b) {
-        Parsed::Is(n) => Row {
-            count: row.count,
-            number: n,
-            has_digit: true,
-            is_broken: row.is_broken,
-        },
-        Parsed::No => broken(row),
-    }
-}
-
-fn end_field(line: &mut [u64; ROOM], row: Row) -> Row {
-    let at = row.count;
-    if !row.has_digit {
-        return broken(row);
-    }
-    if at >= ROOM {
-        return broken(row);
-    }
-    line[at] = row.number;
-    Row {
-        count: at + 1,
-        number: 0,
-        has_digit: false,
-        is_broken: row.is_broken,
-    }
-}
-
-fn broken(row: Row) -> Row {
-    Row {
-        count: row.count,
-        number: 0,
-        has_digit: false,
-        is_broken: true,
-    }
-}
-
-fn is_started(row: Row) -> bool {
-    row.has_digit || row.is_broken || row.count > 0
 }

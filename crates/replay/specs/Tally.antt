@@ -1,20 +1,57 @@
--- How many rows of a list agree. A count that would leave 64 bits stays at the largest number.
+-- What became of each line of a list, as counts. A count that would leave 64 bits stays at the largest number.
 use Prim.Native.Nat.{ℕ, _+_, _-_, _^_, min}
 use mathlib.Core.Bool.{Bool, true, false}
-use Rattle.replay.specs.declared.Tally.{Tally}
+use Rattle.replay.specs.declared.tally.Tally.{Tally}
+use Rattle.replay.specs.declared.tally.Verdict.{Verdict}
+use Rattle.replay.specs.declared.tally.Verdict.the-variants.{Agrees, Differs, Unreadable, Outside}
 
 abbrev pub sumOf : ℕ → ℕ → ℕ
 sumOf a b = min (a + b) (2 ^ 64 - 1)
 
+abbrev pub oneUp : ℕ → ℕ
+oneUp n = sumOf n 1
+
+abbrev pub tallied : ℕ → ℕ → ℕ → ℕ → ℕ → ℕ → Tally
+tallied line equal different unreadable outside found =
+    record { line = line; equal = equal; different = different; unreadable = unreadable; outside = outside; found = found }
+
 abbrev pub fresh : Tally
-fresh = record { line = 1; equal = 0; different = 0 }
+fresh = tallied 1 0 0 0 0 0
 
+-- ---- one line more: of none, or of one kind
 abbrev pub passed : Tally → Tally
-passed t = record { line = sumOf (t .line) 1; equal = t .equal; different = t .different }
+passed t = tallied (oneUp (t .line)) (t .equal) (t .different) (t .unreadable) (t .outside) (t .found)
 
+abbrev pub agreed : Tally → Tally
+agreed t = tallied (oneUp (t .line)) (oneUp (t .equal)) (t .different) (t .unreadable) (t .outside) (t .found)
+
+abbrev pub differed : Tally → Tally
+differed t = tallied (oneUp (t .line)) (t .equal) (oneUp (t .different)) (t .unreadable) (t .outside) (t .found)
+
+abbrev pub unread : Tally → Tally
+unread t = tallied (oneUp (t .line)) (t .equal) (t .different) (oneUp (t .unreadable)) (t .outside) (t .found)
+
+abbrev pub outside : Tally → Tally
+outside t = tallied (oneUp (t .line)) (t .equal) (t .different) (t .unreadable) (oneUp (t .outside)) (t .found)
+
+abbrev pub found : Tally → Tally
+found t = tallied (oneUp (t .line)) (t .equal) (t .different) (t .unreadable) (t .outside) (oneUp (t .found))
+
+-- a row of a list that tells only whether its lines agree
 abbrev pub counted : Tally → Bool → Tally
-counted t true = record { line = sumOf (t .line) 1; equal = sumOf (t .equal) 1; different = t .different }
-counted t false = record { line = sumOf (t .line) 1; equal = t .equal; different = sumOf (t .different) 1 }
+counted t true = agreed t
+counted t false = differed t
+
+-- a line that is wrong on purpose is found where it differs or cannot be read; any other verdict on it differs from what it is there for
+abbrev pub afterVerdict : Tally → Bool → Verdict → Tally
+afterVerdict t false Agrees = agreed t
+afterVerdict t false Differs = differed t
+afterVerdict t false Unreadable = unread t
+afterVerdict t false Outside = outside t
+afterVerdict t true Agrees = differed t
+afterVerdict t true Differs = found t
+afterVerdict t true Unreadable = found t
+afterVerdict t true Outside = differed t
 
 abbrev pub rowsOf : Tally → ℕ
 rowsOf t = sumOf (t .equal) (t .different)

@@ -4,188 +4,138 @@
 // A line that cannot be read as such counts as different, so that nothing of the list is passed over, and the number of rows shows where
 // some of it is missing.
 ghost use Prim.Native.Nat.{_<_, _≤_};
-ghost use lib.ListN.{length};
 use cell::pred::Pred;
 use libc::STDIN_FILENO;
 use machine::ROW_WORDS;
-use replay::Tally;
+use replay::lists;
+use replay::numbers::Read;
+use replay::reading;
+use replay::reading::Reading;
+use replay::tally;
+use replay::tally::Tally;
 use scenario_read::Fed;
-
-// How the next byte of a line is read.
-const PLAIN: u64 = 0;
-
-const FIRST_DIGIT: u64 = 1;
-
-const SECOND_DIGIT: u64 = 2;
 
 // The number that no digit of base 16 has.
 const NO_DIGIT: u8 = 16;
 
-// A line so far. Its bytes are in two lent lists, of which the first places are taken.
-struct Line {
-    mode: u64,
-    // The first digit of an escaped byte.
-    high: u8,
-    // The bar was read: what comes is what the file prints.
-    barred: bool,
-    in_file: usize,
-    in_text: usize,
-    // Some of it could not be read.
-    broken: bool,
-}
-
-struct State {
-    line: Line,
-    tally: Tally,
-    at_end: bool,
-}
+// How much of the list a byte takes that is written as a backslash and two digits.
+const ESCAPED: usize = 3;
 
 fn main() {
+    let mut chunk = io::large_buffer();
+    let mut line = io::large_buffer();
+    let mut reading = reading::begin();
+    let mut tally = tally::start();
+    // A proved loop has to end, and nothing says that the input does: it counts its turns down from a number that no run uses up.
+    let mut turns = u64::MAX;
+    while turns > 0 && !reading.over {
+        reading = read_on(&mut chunk, &mut line, reading);
+        tally = on_line(&line, reading, tally);
+        turns -= 1;
+    }
+    report(reading, tally);
+}
+
+// A chunk where the last one is used up, else bytes of it up to a line's end. A read that fails ends the list.
+fn read_on(chunk: &mut [u8; 65536], line: &mut [u8; 65536], reading: Reading) -> Reading {
+    if !reading::is_used_up(reading) {
+        return reading::take_line(line, chunk, reading);
+    }
+    let got = libc::read(STDIN_FILENO, chunk);
+    let n = io::count(got, chunk);
+    reading::after_read(reading, n)
+}
+
+fn on_line(line: &[u8; 65536], reading: Reading, tally: Tally) -> Tally {
+    if !reading.done {
+        return tally;
+    }
+    let agrees = reading::is_whole(line, reading) && is_row(reading::text(line, reading));
+    tally::count(tally, agrees)
+}
+
+// A last line with no break may be cut short, and counts as different.
+fn report(reading: Reading, tally: Tally) {
+    let last = if reading::is_cut(reading) {
+        tally::count(tally, false)
+    } else {
+        tally
+    };
+    tally::report(last);
+}
+
+// What the file before the bar prints is what stands behind it.
+fn is_row(line: &[u8]) -> bool {
+    let bar = lists::find(line, 0, b'|');
+    if bar >= line.len() {
+        return false;
+    }
     let mut file = io::buffer();
     let mut text = io::buffer();
-    read_list(&mut file, &mut text);
-}
-
-fn read_list(file: &mut [u8], text: &mut [u8]) {
-    let mut state = State {
-        line: start(),
-        tally: replay::start(),
-        at_end: false,
+    let Read::All(n) = bytes_in(lists::part(line, 0, bar), &mut file) else {
+        return false;
     };
-    // A proved loop has to end, and nothing says that the input does: it counts its turns down from a number that no run uses up.
-    let mut left = u64::MAX;
-    while 0 < left {
-        if state.at_end {
-            report(state);
-            return;
+    let Read::All(m) = bytes_in(lists::part(line, bar + 1, line.len()), &mut text) else {
+        return false;
+    };
+    is_printed(lists::part(&file, 0, n), lists::part(&text, 0, m))
+}
+
+// Bytes, some of them as a backslash with two digits of base 16, go to the start of `bytes`; how many there are. No bar is among them.
+fn bytes_in(text: &[u8], bytes: &mut [u8]) -> Read {
+    let mut n = 0;
+    let mut at = 0;
+    while at < text.len() {
+        let width = width_of(text[at]);
+        if width > text.len() - at {
+            return Read::Broken;
         }
-        left -= 1;
-        state = read_some(state, file, text);
-    }
-}
-
-fn start() -> Line {
-    Line {
-        mode: PLAIN,
-        high: 0,
-        barred: false,
-        in_file: 0,
-        in_text: 0,
-        broken: false,
-    }
-}
-
-// Reads once. A read that fails ends the list, and the number of rows then shows it.
-fn read_some(state: State, file: &mut [u8], text: &mut [u8]) -> State {
-    let mut chunk = io::large_buffer();
-    let got = libc::read(STDIN_FILENO, &mut chunk);
-    let n = io::count(got, &chunk);
-    if n == 0 {
-        return stop(state);
-    }
-    read_all(&chunk[..n], state, file, text)
-}
-
-fn stop(state: State) -> State {
-    let line = state.line;
-    let tally = state.tally;
-    State {
-        line,
-        tally,
-        at_end: true,
-    }
-}
-
-fn read_all(chunk: &[u8], state: State, file: &mut [u8], text: &mut [u8]) -> State {
-    let mut now = state;
-    let mut i = 0;
-    while i < chunk.len() {
-        now = push(now, chunk[i], file, text);
-        i += 1;
-    }
-    now
-}
-
-fn push(state: State, b: u8, file: &mut [u8], text: &mut [u8]) -> State {
-    let line = state.line;
-    let tally = state.tally;
-    if b == b'\n' {
-        let same = replay(line, file, text);
-        return State {
-            line: start(),
-            tally: replay::count(tally, same),
-            at_end: false,
+        let Byte::Is(b) = byte_in(lists::part(text, at, at + width)) else {
+            return Read::Broken;
         };
-    }
-    State {
-        line: on_byte(line, b, file, text),
-        tally,
-        at_end: false,
-    }
-}
-
-fn on_byte(line: Line, b: u8, file: &mut [u8], text: &mut [u8]) -> Line {
-    let mode = line.mode;
-    if mode == FIRST_DIGIT {
-        return first_digit(line, digit(b));
-    }
-    if mode == SECOND_DIGIT {
-        return second_digit(line, digit(b), file, text);
-    }
-    if b == b'\\' {
-        return in_mode(line, FIRST_DIGIT);
-    }
-    if b == b'|' {
-        return bar(line);
-    }
-    put(line, b, file, text)
-}
-
-fn in_mode(line: Line, mode: u64) -> Line {
-    let mut l = line;
-    l.mode = mode;
-    l
-}
-
-fn break_it(line: Line) -> Line {
-    let mut l = line;
-    l.broken = true;
-    l
-}
-
-fn bar(line: Line) -> Line {
-    if line.barred {
-        return break_it(line);
-    }
-    let mut l = line;
-    l.barred = true;
-    l
-}
-
-fn first_digit(line: Line, d: u8) -> Line {
-    if d == NO_DIGIT {
-        return break_it(line);
-    }
-    let mut l = in_mode(line, SECOND_DIGIT);
-    l.high = d;
-    l
-}
-
-fn second_digit(line: Line, d: u8, file: &mut [u8], text: &mut [u8]) -> Line {
-    if d == NO_DIGIT {
-        return break_it(line);
-    }
-    let b = byte_of(line.high, d);
-    put(in_mode(line, PLAIN), b, file, text)
-}
-
-fn byte_of(high: u8, low: u8) -> u8 {
-    if high < 16 {
-        if low < 16 {
-            return high * 16 + low;
+        if n >= bytes.len() {
+            return Read::Broken;
         }
+        bytes[n] = b;
+        n += 1;
+        at += width;
     }
-    0
+    Read::All(n)
+}
+
+fn width_of(b: u8) -> usize
+    ensures { λ r. ⌜ 1 ≤ r ⌝ }
+{
+    if b == b'\\' { ESCAPED } else { 1 }
+}
+
+enum Byte {
+    Is(u8),
+    Broken,
+}
+
+// The byte that one byte of the list, or a backslash with two digits, stands for.
+fn byte_in(text: &[u8]) -> Byte {
+    if text.len() == ESCAPED {
+        return byte_of(digit(text[1]), digit(text[2]));
+    }
+    if text.len() != 1 {
+        return Byte::Broken;
+    }
+    if text[0] == b'|' {
+        return Byte::Broken;
+    }
+    Byte::Is(text[0])
+}
+
+fn byte_of(high: u8, low: u8) -> Byte {
+    if high >= 16 {
+        return Byte::Broken;
+    }
+    if low >= 16 {
+        return Byte::Broken;
+    }
+    Byte::Is(high * 16 + low)
 }
 
 // A digit of base 16, in small letters.
@@ -197,49 +147,6 @@ fn digit(b: u8) -> u8 {
         return b - b'a' + 10;
     }
     NO_DIGIT
-}
-
-fn put(line: Line, b: u8, file: &mut [u8], text: &mut [u8]) -> Line {
-    let mut l = line;
-    let n = l.in_file;
-    let m = l.in_text;
-    if l.barred {
-        if m < text.len() {
-            text[m] = b;
-            l.in_text = m + 1;
-            return l;
-        }
-    } else {
-        if n < file.len() {
-            file[n] = b;
-            l.in_file = n + 1;
-            return l;
-        }
-    }
-    break_it(l)
-}
-
-// A last line with no break may be cut short, and counts as different.
-fn report(state: State) {
-    let line = state.line;
-    let tally = state.tally;
-    let last = if line.barred || 0 < line.in_file {
-        replay::count(tally, false)
-    } else {
-        tally
-    };
-    replay::report(last);
-}
-
-// What the file prints is what stands behind the bar.
-fn replay(line: Line, file: &[u8], text: &[u8]) -> bool {
-    if line.broken || !line.barred {
-        return false;
-    }
-    is_printed(
-        program_chunks::front(file, line.in_file),
-        program_chunks::front(text, line.in_text),
-    )
 }
 
 // In whatever chunks it comes: as one, byte by byte, and in sevens.
@@ -271,7 +178,7 @@ fn is_printed_cut(file: &[u8], text: &[u8], more: usize) -> bool {
     let stop = scenario_read::stopped(state, rows.len(), fed.at);
     let at = scenario_text::put_header(&mut out, 0);
     let end = scenario_prints::put_more(0, &rows, fed.at / ROW_WORDS, stop, &mut out, at);
-    scenario_read::ends(stop) && is_same(&out, end, text)
+    scenario_read::ends(stop) && end == text.len() && check::same(lists::part(&out, 0, end), text)
 }
 
 // Chunks of one byte more than `more`, then the end. They are handed over after a refusal too.
@@ -308,7 +215,7 @@ fn hand_all(
     let mut i = 0;
     while i < file.len() {
         let end = end_of(i, more, file.len());
-        let chunk = part(file, i, end);
+        let chunk = lists::part(file, i, end);
         fed = hand_both(fed, line, lens, ops, vals, schedule, chunk, rows);
         i = end;
     }
@@ -339,13 +246,6 @@ fn end_of(i: usize, more: usize, n: usize) -> usize
     if more < n - i - 1 { i + more + 1 } else { n }
 }
 
-fn part(list: &[u8], from: usize, end: usize) -> &[u8]
-    requires { ⌜ from ≤ end ⌝ }
-    requires { ⌜ end ≤ length (now list) ⌝ }
-{
-    &list[from..end]
-}
-
 fn hand(
     fed: Fed,
     line: &mut [u8; 80],
@@ -373,22 +273,4 @@ fn hand(
         rows,
         fed.at,
     )
-}
-
-// The first n bytes of a list are these.
-fn is_same(out: &[u8], n: usize, text: &[u8]) -> bool {
-    if n != text.len() {
-        return false;
-    }
-    if out.len() < n {
-        return false;
-    }
-    let mut i = 0;
-    while i < n {
-        if out[i] != text[i] {
-            return false;
-        }
-        i += 1;
-    }
-    true
 }

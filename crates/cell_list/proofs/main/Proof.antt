@@ -4,10 +4,10 @@ use Rattle.cell_list.proofs.main.Statement.{statement}
 use Rattle.cell_list.proofs.main.Tie as tie
 
 abbrev Inv-loop : tie.InvT-loop
-Inv-loop state₀ turns₀ state turns = Unit {0}
+Inv-loop chunk₀ line₀ reading₀ state₀ turns₀ chunk line reading state turns = Unit {0}
 
 abbrev μ-loop : tie.MeasureT-loop
-μ-loop state₀ turns₀ state turns = turns
+μ-loop chunk₀ line₀ reading₀ state₀ turns₀ chunk line reading state turns = turns
 
 pub main-spec : {M : Type 1} → statement M
 main-spec =
@@ -18,7 +18,10 @@ main-spec =
     (λ c κs. search needs)
     (λ c κs. search needs)
     (λ c κs. search needs)
+    (λ c κs. search needs)
+    (λ c κs. search needs)
     (λ c. search needs)
+    (λ c κs. search needs)
     (λ c κs. search needs)
     (λ c. search needs)
     (λ c. search needs)

@@ -4,10 +4,10 @@ use Rattle.lock_list.proofs.main.Statement.{statement}
 use Rattle.lock_list.proofs.main.Tie as tie
 
 abbrev Inv-loop : tie.InvT-loop
-Inv-loop line₀ now₀ turns₀ line now turns = Unit {0}
+Inv-loop chunk₀ line₀ reading₀ tally₀ turns₀ chunk line reading tally turns = Unit {0}
 
 abbrev μ-loop : tie.MeasureT-loop
-μ-loop line₀ now₀ turns₀ line now turns = turns
+μ-loop chunk₀ line₀ reading₀ tally₀ turns₀ chunk line reading tally turns = turns
 
 pub main-spec : {M : Type 1} → statement M
 main-spec =
@@ -17,7 +17,10 @@ main-spec =
     μ-loop
     (λ c κs. search needs)
     (λ c κs. search needs)
+    (λ c κs. search needs)
+    (λ c κs. search needs)
     (λ c. search needs)
+    (λ c κs. search needs)
     (λ c κs. search needs)
     (λ c. search needs)
     (λ c. search needs)

@@ -1,0 +1,4 @@
+pub mod Scans
+pub mod Fields
+pub mod Takes
+pub mod Laws

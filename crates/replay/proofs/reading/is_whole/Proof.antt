@@ -1,0 +1,11 @@
+-- `is_whole` meets its contract. Assumes nothing.
+use mathlib.Core.Path.{refl}
+use borrow.Author.Needs.{needs}
+use Rattle.replay.proofs.reading.is_whole.Statement.{statement}
+use Rattle.replay.proofs.reading.is_whole.Tie as tie
+
+returns : tie.Need-returns
+returns c = rw (c .before .if1 .taken)
+
+pub is-whole-spec : {M : Type 1} → statement M
+is-whole-spec = tie.close (tie.spec returns (λ c. search needs))

@@ -1,0 +1,96 @@
+// The numbers of a line: plain decimal below 2^64 with no needless zero, and commas between them.
+ghost use mathlib.Core.Path.{_≡_};
+ghost use Rattle.scenario_lines.specs.Number.{number, scan};
+ghost use Rattle.replay.specs.Numbers.{numbersOf, isPut, putIn, onPurpose};
+use super::lists::find;
+use super::lists::part;
+use scenario_lines::Parsed;
+use scenario_lines::number::one_more;
+
+// What the first number of a line says that is wrong on purpose.
+const WRONG: u64 = 999;
+
+// What became of what a line holds: how many of them there are.
+pub enum Read {
+    // One of them cannot be read, or has no room.
+    Broken,
+    All(usize),
+}
+
+// The numbers of a line go to the start of `words`, up to the first that is none or has no room.
+pub fn numbers(text: &[u8], words: &mut [u64]) -> Read
+    ensures { λ r. ⌜ r ≡ numbersOf (now (text .entry)) (now (words .entry)) .told ⌝ }
+    ensures { λ _. ⌜ now (words .exit) ≡ numbersOf (now (text .entry)) (now (words .entry)) .words ⌝ }
+{
+    let mut n = 0;
+    let mut at = 0;
+    loop {
+        let end = find(text, at, b',');
+        if !put(words, n, number(part(text, at, end))) {
+            return Read::Broken;
+        }
+        n += 1;
+        if end >= text.len() {
+            return Read::All(n);
+        }
+        at = end + 1;
+    }
+}
+
+// The number that a whole text is.
+pub fn number(text: &[u8]) -> Parsed
+    ensures { λ r. ⌜ r ≡ number (now (text .entry)) ⌝ }
+{
+    if text.len() == 0 {
+        return Parsed::No;
+    }
+    if text[0] == b'0' {
+        if text.len() == 1 {
+            return Parsed::Is(0);
+        }
+        return Parsed::No;
+    }
+    digits(text)
+}
+
+// Whether the line is one that is wrong on purpose, by its first number.
+pub fn is_wrong(text: &[u8]) -> bool
+    ensures { λ r. ⌜ r ≡ onPurpose (now (text .entry)) ⌝ }
+{
+    let what = number(part(text, 0, find(text, 0, b',')));
+    match what {
+        Parsed::Is(n) => n == WRONG,
+        Parsed::No => false,
+    }
+}
+
+fn digits(text: &[u8]) -> Parsed
+    ensures { λ r. ⌜ r ≡ scan 0 (now (text .entry)) ⌝ }
+{
+    let mut v: u64 = 0;
+    let mut i = 0;
+    while i < text.len() {
+        let Parsed::Is(more) = one_more(v, text[i]) else {
+            return Parsed::No;
+        };
+        v = more;
+        i += 1;
+    }
+    Parsed::Is(v)
+}
+
+fn put(words: &mut [u64], at: usize, what: Parsed) -> bool
+    ensures { λ r. ⌜ r ≡ isPut what at (now (words .entry)) ⌝ }
+    ensures { λ _. ⌜ now (words .exit) ≡ putIn what at (now (words .entry)) ⌝ }
+{
+    match what {
+        Parsed::No => false,
+        Parsed::Is(n) => {
+            if at >= words.len() {
+                return false;
+            }
+            words[at] = n;
+            true
+        }
+    }
+}
