@@ -16,6 +16,7 @@ use replay::reading::Reading;
 use replay::tally;
 use replay::tally::Tally;
 use scenario_lines::Parsed;
+use scenario_lines::number::parse_number;
 
 fn main() {
     let mut chunk = io::large_buffer();
@@ -114,7 +115,7 @@ fn agrees(line: &[u8]) -> bool {
     if second >= line.len() {
         return false;
     }
-    let Parsed::Is(width) = numbers::number(lists::part(line, 0, first)) else {
+    let Parsed::Is(width) = parse_number(lists::part(line, 0, first)) else {
         return false;
     };
     let Named::Is(operation) = by_name(lists::part(line, first + 1, second)) else {

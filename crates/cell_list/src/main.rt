@@ -155,26 +155,18 @@ fn no_cell() -> Made {
     Made::NotMade(Refusal::NotPermitted)
 }
 
-// A line that is no row makes no call. A row is below 200 bytes, so that the front of a line that has no room is none either.
+// A line that is no row counts as different, and makes the call of the numbers that it has, so that the rows after it follow on what
+// they would. A row is below 200 bytes, so that the front of a line that has no room is none.
 fn replay_text(cells: Cells, text: &[u8]) -> Replayed {
     let mut f = [0; FIELDS];
-    let Read::All(n) = numbers::numbers(text, &mut f) else {
-        return broken(cells);
+    let is_row = match numbers::numbers(text, &mut f) {
+        Read::All(n) => n == FIELDS,
+        Read::Broken => false,
     };
-    if n != FIELDS {
-        return broken(cells);
-    }
-    replay_row(cells, f)
+    replay_row(cells, f, is_row)
 }
 
-fn broken(cells: Cells) -> Replayed {
-    Replayed {
-        cells,
-        is_equal: false,
-    }
-}
-
-fn replay_row(cells: Cells, f: [u64; FIELDS]) -> Replayed {
+fn replay_row(cells: Cells, f: [u64; FIELDS], is_row: bool) -> Replayed {
     let call = Call {
         code: f[0],
         a: f[1],
@@ -189,11 +181,14 @@ fn replay_row(cells: Cells, f: [u64; FIELDS]) -> Replayed {
         kept: f[8],
     };
     let Seen::Told(left, told) = make(cells, call) else {
-        return broken(cells);
+        return Replayed {
+            cells,
+            is_equal: false,
+        };
     };
     Replayed {
         cells: left,
-        is_equal: is_same(told, expected),
+        is_equal: is_row && is_same(told, expected),
     }
 }
 

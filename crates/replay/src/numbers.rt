@@ -1,11 +1,10 @@
 // The numbers of a line: plain decimal below 2^64 with no needless zero, and commas between them.
 ghost use mathlib.Core.Path.{_≡_};
-ghost use Rattle.scenario_lines.specs.Number.{number, scan};
 ghost use Rattle.replay.specs.Numbers.{numbersOf, isPut, putIn, onPurpose};
 use super::lists::find;
 use super::lists::part;
 use scenario_lines::Parsed;
-use scenario_lines::number::one_more;
+use scenario_lines::number::parse_number;
 
 // What the first number of a line says that is wrong on purpose.
 const WRONG: u64 = 999;
@@ -26,7 +25,7 @@ pub fn numbers(text: &[u8], words: &mut [u64]) -> Read
     let mut at = 0;
     loop {
         let end = find(text, at, b',');
-        if !put(words, n, number(part(text, at, end))) {
+        if !put(words, n, parse_number(part(text, at, end))) {
             return Read::Broken;
         }
         n += 1;
@@ -37,46 +36,15 @@ pub fn numbers(text: &[u8], words: &mut [u64]) -> Read
     }
 }
 
-// The number that a whole text is.
-pub fn number(text: &[u8]) -> Parsed
-    ensures { λ r. ⌜ r ≡ number (now (text .entry)) ⌝ }
-{
-    if text.len() == 0 {
-        return Parsed::No;
-    }
-    if text[0] == b'0' {
-        if text.len() == 1 {
-            return Parsed::Is(0);
-        }
-        return Parsed::No;
-    }
-    digits(text)
-}
-
 // Whether the line is one that is wrong on purpose, by its first number.
 pub fn is_wrong(text: &[u8]) -> bool
     ensures { λ r. ⌜ r ≡ onPurpose (now (text .entry)) ⌝ }
 {
-    let what = number(part(text, 0, find(text, 0, b',')));
+    let what = parse_number(part(text, 0, find(text, 0, b',')));
     match what {
         Parsed::Is(n) => n == WRONG,
         Parsed::No => false,
     }
-}
-
-fn digits(text: &[u8]) -> Parsed
-    ensures { λ r. ⌜ r ≡ scan 0 (now (text .entry)) ⌝ }
-{
-    let mut v: u64 = 0;
-    let mut i = 0;
-    while i < text.len() {
-        let Parsed::Is(more) = one_more(v, text[i]) else {
-            return Parsed::No;
-        };
-        v = more;
-        i += 1;
-    }
-    Parsed::Is(v)
 }
 
 fn put(words: &mut [u64], at: usize, what: Parsed) -> bool

@@ -6,7 +6,8 @@ use super::Parsed;
 // The largest number that can be followed by a digit at all.
 const TENTH: u64 = 1844674407370955161;
 
-pub(crate) fn parse_number(s: &[u8]) -> Parsed
+// The number that a whole text is.
+pub fn parse_number(s: &[u8]) -> Parsed
     ensures { λ r. ⌜ r ≡ number (now (s .entry)) ⌝ }
 {
     if s.len() == 0 {

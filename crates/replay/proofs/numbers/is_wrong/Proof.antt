@@ -10,12 +10,12 @@ use Rattle.replay.proofs.numbers.is_wrong.Tie as tie
 returns : tie.Need-returns
 unfolding onPurpose
 returns c =
-    simp (← (c .before .before .before .before .before .find .ensures), ← (c .before .before .before .before .part .ensures), ← (c .before .before .before .number .ensures), c .before .what .given .1)
+    simp (← (c .before .before .before .before .before .find .ensures), ← (c .before .before .before .before .part .ensures), ← (c .before .before .before .parse-number .ensures), c .before .what .given .1)
 
 returns-2 : tie.Need-returns-2
 unfolding onPurpose
 returns-2 c =
-    simp (← (c .before .before .before .before .find .ensures), ← (c .before .before .before .part .ensures), ← (c .before .before .number .ensures), c .enum-told .given .1)
+    simp (← (c .before .before .before .before .find .ensures), ← (c .before .before .before .part .ensures), ← (c .before .before .parse-number .ensures), c .enum-told .given .1)
 
 pub is-wrong-spec : {M : Type 1} → statement M
 is-wrong-spec =

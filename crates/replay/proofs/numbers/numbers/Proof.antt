@@ -29,7 +29,7 @@ returns c =
     let a = c .before .before .before .before .before .before .before .before .before .before .before .args in
     let l = c .before .before .before .before .before .before .before .before .loop in
     fills-broken (now (a .text)) (l .at) (c .before .before .before .before .before .before .before .find .result) (l .inv .0) (c .before .before .before .before .before .before .before .find .ensures) (l .words) (l .n) (l .inv .3)
-    (c .before .before .before .before .number .ensures ∙ ap number (c .before .before .before .before .before .part .ensures)) (c .before .before .before .put .ensures) (not-true _ (c .if1 .taken))
+    (c .before .before .before .before .parse-number .ensures ∙ ap number (c .before .before .before .before .before .part .ensures)) (c .before .before .before .put .ensures) (not-true _ (c .if1 .taken))
 
 add-n : tie.Need-add-n Inv-loop μ-loop
 add-n c = omega (arith, c .before .before .before .before .before .before .before .before .loop .inv .1)
@@ -39,7 +39,7 @@ returns-2 c =
     let a = c .before .before .before .before .before .before .before .before .before .before .before .before .args in
     let l = c .before .before .before .before .before .before .before .before .before .loop in
     fills-last (now (a .text)) (l .at) (c .before .before .before .before .before .before .before .before .find .result) (l .inv .0) (c .before .before .before .before .before .before .before .before .find .ensures) (l .words) (l .n) (l .inv .3)
-    (c .before .before .before .before .before .number .ensures ∙ ap number (c .before .before .before .before .before .before .part .ensures)) (c .before .before .before .before .put .ensures) (not-false _ (c .before .if1 .left)) (c .if2 .taken)
+    (c .before .before .before .before .before .parse-number .ensures ∙ ap number (c .before .before .before .before .before .before .part .ensures)) (c .before .before .before .before .put .ensures) (not-false _ (c .before .if1 .left)) (c .if2 .taken)
 
 loop-less : tie.Need-loop-less Inv-loop μ-loop
 loop-less c = omega (arith, c .before .before .before .before .before .before .before .before .find .ensures)
@@ -53,7 +53,7 @@ loop-again c =
       omega (arith, e, l .inv .1),
       search needs,
       fills-on (now (a .text)) (l .at) (c .before .before .before .before .before .before .before .before .find .result) (l .inv .0) (c .before .before .before .before .before .before .before .before .find .ensures) (l .words) (l .n) (l .inv .3)
-          (c .before .before .before .before .before .number .ensures ∙ ap number (c .before .before .before .before .before .before .part .ensures)) (c .before .before .before .before .put .ensures) (not-false _ (c .before .if1 .left)) (c .if2 .left),
+          (c .before .before .before .before .before .parse-number .ensures ∙ ap number (c .before .before .before .before .before .before .part .ensures)) (c .before .before .before .before .put .ensures) (not-false _ (c .before .if1 .left)) (c .if2 .left),
     )
 
 pub numbers-spec : {M : Type 1} → statement M
