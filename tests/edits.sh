@@ -41,7 +41,7 @@ applied() {
         split("", whole)
         edits++
         pairs = wrong = 0
-        file = ""
+        file = old = ""
         last = FILENAME
         root = FILENAME
         # the files of an edit across crates are named from here
@@ -54,9 +54,11 @@ applied() {
     /^new:/ && !wrong {
         new = substr($0, 5)
         sub(/^ /, "", new)
-        before = text(file)
+        inside = root == "" || (file !~ /\/\.\.\// && substr(file, length(root) + 1) ~ /^(src|specs|proofs)\//)
+        before = inside ? text(file) : ""
         at = index(before, old)
-        if (before == "") bad("no file " file)
+        if (!inside) bad("not in src/, specs/ or proofs/ of its crate: " file)
+        else if (before == "") bad("no file " file)
         else if (old == "" || !at) bad("not in " file ": " old)
         else {
             rest = substr(before, at + length(old))
@@ -87,7 +89,9 @@ case ${1-} in
     exit 2
     ;;
 esac
-found=$(LC_ALL=C applied crates/*/must-fail*/*.edit tests/across/*.edit)
+set -- crates/*/must-fail*/*.edit tests/across/*.edit
+all=$#
+found=$(LC_ALL=C applied "$@")
 counts=$(printf '%s\n' "$found" | tail -n 1)
 if [ "$counts" != "$found" ]; then
     echo "edits: these do not apply any more:" >&2
@@ -95,4 +99,6 @@ if [ "$counts" != "$found" ]; then
     exit 1
 fi
 set -- $counts
+# a file of no lines is seen by nobody
+[ $(($1 + $2 + $3)) -eq "$all" ] || { echo "edits: of $all files some are empty: $(find crates tests -name '*.edit' -size 0)" >&2; exit 1; }
 echo "edits: $1 in the gate, $2 beside it, $3 across crates; each applies"

@@ -14,7 +14,7 @@ apply() {
         while (at = index(text, part)) { n++; text = substr(text, at + length(part)) }
         return n + 0
     }
-    function stop(why) { print edit ": " why > "/dev/stderr"; bad = 1; exit 1 }
+    function stop(why) { print edit ": " why > "/dev/stderr"; exit 1 }
     function read(name,    line) {
         whole = ""
         while ((getline line < name) > 0) whole = whole line "\n"
@@ -23,6 +23,7 @@ apply() {
     /^file: / { file = substr($0, 7) }
     /^old: / { old = substr($0, 6) }
     /^new:/ {
+        if (old == "") stop("no old: before new:")
         read(file)
         if (times(whole, old) != 1) stop("not once in " file ": " old)
         at = index(whole, old)
@@ -30,5 +31,6 @@ apply() {
         sub(/^ /, "", new)
         printf "%s", substr(whole, 1, at - 1) new substr(whole, at + length(old)) > file
         close(file)
+        old = ""
     }' "$1"
 }

@@ -1,7 +1,7 @@
 #!/bin/sh
 # Tries the must-fail edits that the gate leaves out for the time that they take: those in crates/*/must-fail-more. Each is put into a copy of its
 # crate and checked over what was checked before it, as `rt dev` does, which takes seconds where the gate's check from nothing takes up to a minute.
-# usage: tests/more-edits.sh [-a] [-j JOBS] [CRATE...]   the default is every crate that has some
+# usage: tests/more-edits.sh [-a] [-j JOBS] [CRATE...]   the default is every crate that has such edits
 #   -a        the edits that the gate tries too
 #   -j JOBS   so many crates at a time (2)
 # What each check said is left in target/more-edits/CRATE/LABEL, and its first error is printed. Its last line is 'N passed, M failed'.
@@ -19,7 +19,16 @@ while getopts aj: option; do
 done
 shift $((OPTIND - 1))
 tests/edits.sh
-[ $# -gt 0 ] || set -- $(for d in crates/*/must-fail-more; do basename "$(dirname "$d")"; done)
+[ $# -gt 0 ] || set -- $(for f in $folders; do for d in crates/*/"$f"; do basename "$(dirname "$d")"; done; done | sort -u)
+due=0
+for crate in "$@"; do
+    for folder in $folders; do
+        for edit in "crates/$crate/$folder"/*.edit; do
+            [ ! -f "$edit" ] || due=$((due + 1))
+        done
+    done
+done
+[ "$due" -gt 0 ] || { echo "more-edits: no edits to try: -a takes those of the gate too" >&2; exit 1; }
 logs=$PWD/target/more-edits
 rm -rf "$logs"
 mkdir -p "$logs"
@@ -84,4 +93,6 @@ cat "$room"/said.*
 passed=$(cat "$room"/said.* | grep -c ': refused (') || true
 failed=$(cat "$room"/said.* | grep -c ': NOT REFUSED') || true
 echo "$passed passed, $failed failed"
+# a worker that broke off has tried fewer
+[ $((passed + failed)) -ge "$due" ] || { echo "more-edits: of $due edits not all were tried" >&2; exit 1; }
 [ "$failed" -eq 0 ]

@@ -3,8 +3,9 @@
 
 usage: docs/landings/00-names.py PATH...   files, or folders with all that is in them; changed in place
 
-What it renames is the table of docs/landings/00-house.md: crates wherever code or a proof names them, and the types and functions
-that had a name which meant several things. Folders called as a crate was are moved. Prose is left alone.
+It renames the crates of the table in docs/landings/00-house.md, but for blocks and vcd, wherever code or a proof names them, with their folders;
+the answers of a run and of a drain where they are brought in; and the names of refusal 15. The rest of the table, and folders of proofs/ that are
+called as a function was, are to be done by hand. Prose is left alone.
 """
 import os
 import re

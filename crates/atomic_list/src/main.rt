@@ -10,7 +10,7 @@ use atomic::Count;
 use libc::STDIN_FILENO;
 use replay::lists;
 use replay::numbers;
-use replay::numbers::Read;
+use replay::numbers::Stored;
 use replay::reading;
 use replay::reading::Reading;
 use replay::tally;
@@ -34,7 +34,7 @@ fn main() {
     report(reading, tally);
 }
 
-// A chunk where the last one is used up, else bytes of it up to a line's end.
+// A chunk where the last one is used up, else bytes of it up to a line's end. A read that fails ends the list, and the number of rows then shows it.
 fn read_on(chunk: &mut [u8; 65536], line: &mut [u8; 65536], reading: Reading) -> Reading {
     if !reading::is_used_up(reading) {
         return reading::take_line(line, chunk, reading);
@@ -63,12 +63,7 @@ fn on_line(line: &[u8; 65536], reading: Reading, tally: Tally) -> Tally {
 
 // A last line with no break may be cut short, and counts as different.
 fn report(reading: Reading, tally: Tally) {
-    let last = if reading::is_cut(reading) {
-        tally::count(tally, false)
-    } else {
-        tally
-    };
-    tally::report(last);
+    tally::report(tally::count_cut(tally, reading::is_cut(reading)));
 }
 
 // A row of the list: read, replayed and compared. Its fields are the width (64, 8, or 1 for bool), the
@@ -127,7 +122,7 @@ fn agrees(line: &[u8]) -> bool {
 // What follows the name is nine numbers and nothing more.
 fn is_row(width: u64, operation: Operation, text: &[u8]) -> bool {
     let mut f = [0; NUMBERS];
-    let Read::All(n) = numbers::numbers(text, &mut f) else {
+    let Stored::All(n) = numbers::numbers(text, &mut f) else {
         return false;
     };
     n == NUMBERS && is_made(width, operation, f)

@@ -15,7 +15,7 @@ use cell::value::Content;
 use cell::value::Perm;
 use libc::STDIN_FILENO;
 use replay::numbers;
-use replay::numbers::Read;
+use replay::numbers::Stored;
 use replay::reading;
 use replay::reading::Reading;
 use replay::tally;
@@ -45,7 +45,7 @@ fn main() {
     report(reading, tally);
 }
 
-// A chunk where the last one is used up, else bytes of it up to a line's end.
+// A chunk where the last one is used up, else bytes of it up to a line's end. A read that fails ends the list, and the number of rows then shows it.
 fn read_on(chunk: &mut [u8; 65536], line: &mut [u8; 65536], reading: Reading) -> Reading {
     if !reading::is_used_up(reading) {
         return reading::take_line(line, chunk, reading);
@@ -78,12 +78,7 @@ fn on_line(line: &[u8; 65536], reading: Reading, state: State) -> State {
 
 // A last line with no break may be cut short, and counts as different.
 fn report(reading: Reading, tally: Tally) {
-    let last = if reading::is_cut(reading) {
-        tally::count(tally, false)
-    } else {
-        tally
-    };
-    tally::report(last);
+    tally::report(tally::count_cut(tally, reading::is_cut(reading)));
 }
 
 // A row of the list, replayed on the value cell or the InvCell and compared.
@@ -160,8 +155,8 @@ fn no_cell() -> Made {
 fn replay_text(cells: Cells, text: &[u8]) -> Replayed {
     let mut f = [0; FIELDS];
     let is_row = match numbers::numbers(text, &mut f) {
-        Read::All(n) => n == FIELDS,
-        Read::Broken => false,
+        Stored::All(n) => n == FIELDS,
+        Stored::Broken => false,
     };
     replay_row(cells, f, is_row)
 }

@@ -8,7 +8,7 @@ use machine::Place;
 use machine::Rec;
 
 // The array has room for as many records as there may be threads.
-const MOST_THREADS: usize = 16;
+const ARRAY: usize = 16;
 
 // The list and the array change their first records with each other, as many as both have.
 pub(crate) fn exchange(recs: &mut [Rec], with: [Rec; 16]) -> [Rec; 16]
@@ -30,7 +30,7 @@ pub(crate) fn exchange(recs: &mut [Rec], with: [Rec; 16]) -> [Rec; 16]
 pub fn at_most_sixteen(n: usize) -> usize
     ensures { λ r. ⌜ r ≡ min n 16 ⌝ }
 {
-    if n < MOST_THREADS { n } else { MOST_THREADS }
+    if n < ARRAY { n } else { ARRAY }
 }
 
 // Sixteen records as setup makes them, to take out against.

@@ -27,7 +27,7 @@ use replay::lists;
 use replay::lists::is_same;
 use replay::lists::word;
 use replay::numbers;
-use replay::numbers::Read;
+use replay::numbers::Stored;
 use replay::reading;
 use replay::reading::Reading;
 use replay::tally;
@@ -49,7 +49,7 @@ fn main() {
     report(reading, tally);
 }
 
-// A chunk where the last one is used up, else bytes of it up to a line's end. A read that fails ends the list.
+// A chunk where the last one is used up, else bytes of it up to a line's end. A read that fails ends the list, and the number of rows then shows it.
 fn read_on(chunk: &mut [u8; 65536], line: &mut [u8; 65536], reading: Reading) -> Reading {
     if !reading::is_used_up(reading) {
         return reading::take_line(line, chunk, reading);
@@ -88,7 +88,7 @@ fn report(reading: Reading, tally: Tally) {
 
 fn verdict_on(text: &[u8]) -> Verdict {
     let mut line = [0; ROOM];
-    let Read::All(n) = numbers::numbers(text, &mut line) else {
+    let Stored::All(n) = numbers::numbers(text, &mut line) else {
         return Verdict::Unreadable;
     };
     replay_line(lists::words(&line, 0, n))

@@ -15,8 +15,8 @@ use Rattle.scenario_lines.specs.declared.Parsed.{Parsed}
 use Rattle.scenario_lines.proofs.Scans.{part-whole, fields-cut, fields-one}
 use Rattle.replay.specs.Lists.{partOf, placeOf}
 use Rattle.replay.specs.Numbers.{Filled, filled, isPut, putIn, fill}
-use Rattle.replay.specs.declared.numbers.Read.{Read}
-use Rattle.replay.specs.declared.numbers.Read.the-variants.{Broken, All}
+use Rattle.replay.specs.declared.numbers.Stored.{Stored}
+use Rattle.replay.specs.declared.numbers.Stored.the-variants.{Broken, All}
 use Rattle.replay.proofs.Scans.{part-in}
 
 place-by : (t : Bool) (n m : ℕ) → n ≤ m → cond t 0 (suc n) ≤ suc m
@@ -28,7 +28,7 @@ unfolding placeOf
 place-most b [] = omega arith
 place-most b (x ∷ l) = place-by (eqb x b) (placeOf b l) (length l) (place-most b l)
 
--- the place of the first comma is the one that crate lines splits at
+-- the place of the first comma is the one that `scenario_lines` splits at
 place-comma : (l : List ℕ) → placeOf 44 l ≡ commaAt l
 unfolding placeOf commaAt
 place-comma [] = refl

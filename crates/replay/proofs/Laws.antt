@@ -15,9 +15,9 @@ use Rattle.scenario_lines.specs.Number.{number}
 use Rattle.scenario_lines.specs.declared.Parsed.the-variants.{Is}
 use Rattle.replay.specs.Lists.{frontThen}
 use Rattle.replay.specs.Numbers.{Filled, filled, fill}
-use Rattle.replay.specs.Reading.{Took, took, taking, oneMore, grown}
-use Rattle.replay.specs.Laws.{SameList, FrontAndRest, NumbersInPlace, unbroken, LineGathered, behind, CutAnywhere}
-use Rattle.replay.specs.declared.numbers.Read.the-variants.{All}
+use Rattle.replay.specs.Reading.{Took, took, taking, byteBefore, grown}
+use Rattle.replay.specs.Laws.{SameList, FrontAndRest, NumbersInPlace, withoutBreak, LineGathered, behind, CutAnywhere}
+use Rattle.replay.specs.declared.numbers.Stored.the-variants.{All}
 
 both : (t u : Bool) → (t && u) ≡ true → (t ≡ true) × (u ≡ true)
 both true u e = (refl, e)
@@ -91,16 +91,16 @@ no-break : (t u : Bool) → (not t && u) ≡ true → (t ≡ false) × (u ≡ tr
 no-break true u e = absurd (false≢true e)
 no-break false u e = (refl, e)
 
-gathered : (l more room : List ℕ) (n : ℕ) → unbroken l ≡ true → n + length l ≤ length room
+gathered : (l more room : List ℕ) (n : ℕ) → withoutBreak l ≡ true → n + length l ≤ length room
     → took (l ++ (10 ∷ more)) room n ≡ taking (sets room n l) (n + length l) (length l + 1) true
 unfolding took
 gathered [] more room n e h = let z : n + 0 ≡ n = omega arith in let o : 0 + 1 ≡ 1 = omega arith in rw (z, o)
 gathered (b ∷ l) more room n e h =
-    let f = no-break (eqb b 10) (unbroken l) e in
+    let f = no-break (eqb b 10) (withoutBreak l) e in
     let width : n + suc (length l) ≡ n + 1 + length l = omega arith in
     let used : suc (length l) + 1 ≡ suc (length l + 1) = omega arith in
     rw (f .0, lt-ltb n (length room) (omega arith), width, used, add-one n)
-    (ap oneMore (gathered l more (set room n b) (suc n) (f .1) (omega (arith, length-set room n b))))
+    (ap byteBefore (gathered l more (set room n b) (suc n) (f .1) (omega (arith, length-set room n b))))
 
 pub line-gathered : LineGathered
 line-gathered l more room e h =
@@ -109,13 +109,13 @@ line-gathered l more room e h =
 
 -- ---- bytes in two chunks
 cut-by : (t : Bool) (k : ℕ) (b room : List ℕ) (n : ℕ) (x y : Took) → (x .done ≡ false → y ≡ behind k (took b (x .line) (x .held)))
-    → let before = cond t (taking room n 1 true) (oneMore x) in
-    before .done ≡ false → cond t (taking room n 1 true) (oneMore y) ≡ behind (suc k) (took b (before .line) (before .held))
+    → let before = cond t (taking room n 1 true) (byteBefore x) in
+    before .done ≡ false → cond t (taking room n 1 true) (byteBefore y) ≡ behind (suc k) (took b (before .line) (before .held))
 cut-by true k b room n x y later e = absurd (false≢true (sym e))
 cut-by false k b room n x y later e =
     let after = took b (x .line) (x .held) in
     let used : suc (k + after .used) ≡ suc k + after .used = omega arith in
-    ap oneMore (later e) ∙ ap (λ (m : ℕ). taking (after .line) (after .held) m (after .done)) used
+    ap byteBefore (later e) ∙ ap (λ (m : ℕ). taking (after .line) (after .held) m (after .done)) used
 
 pub cut-anywhere : CutAnywhere
 unfolding took

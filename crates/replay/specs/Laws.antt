@@ -14,7 +14,7 @@ use Rattle.scenario_lines.specs.declared.Parsed.the-variants.{Is}
 use Rattle.replay.specs.Lists.{frontThen}
 use Rattle.replay.specs.Numbers.{filled, numbersOf}
 use Rattle.replay.specs.Reading.{Took, took, taking}
-use Rattle.replay.specs.declared.numbers.Read.the-variants.{All}
+use Rattle.replay.specs.declared.numbers.Stored.the-variants.{All}
 
 abbrev pub SameList : Type 0
 SameList = (s t : List ℕ) → (equal s t ≡ true → s ≡ t) × (s ≡ t → equal s t ≡ true)
@@ -32,14 +32,14 @@ NumbersInPlace =
     (text w vs : List ℕ) → map number (fields text) ≡ map Is vs → length vs ≤ length w → numbersOf text w ≡ filled (All (length vs)) (vs ++ drop (length vs) w)
 
 -- no break among the bytes
-abbrev pub unbroken : List ℕ → Bool
-unbroken [] = true
-unbroken (b ∷ l) = not (eqb b lf) && unbroken l
+abbrev pub withoutBreak : List ℕ → Bool
+withoutBreak [] = true
+withoutBreak (b ∷ l) = not (eqb b lf) && withoutBreak l
 
 -- bytes up to a break are the line, where the room has all of them; behind them the room is as it was
 abbrev pub LineGathered : Type 0
 LineGathered =
-    (l more room : List ℕ) → unbroken l ≡ true → length l ≤ length room
+    (l more room : List ℕ) → withoutBreak l ≡ true → length l ≤ length room
     → took (l ++ (lf ∷ more)) room 0 ≡ taking (l ++ drop (length l) room) (length l) (length l + 1) true
 
 -- what is taken behind so many bytes

@@ -1,4 +1,4 @@
--- The numbers of a line, as crate lines has fields and numbers, and the list of words that they go to.
+-- The numbers of a line, as `scenario_lines` has fields and numbers, and the list of words that they go to.
 use Prim.Native.Nat.{ℕ, suc}
 use mathlib.Core.Bool.{Bool, true, false, cond}
 use mathlib.Core.List.{List, [], _∷_}
@@ -9,15 +9,15 @@ use Rattle.scenario_lines.specs.Number.{number}
 use Rattle.scenario_lines.specs.declared.Parsed.{Parsed}
 use Rattle.scenario_lines.specs.declared.Parsed.the-variants.{No, Is}
 use Rattle.replay.specs.Lists.{partOf, placeFrom}
-use Rattle.replay.specs.declared.numbers.Read.{Read}
-use Rattle.replay.specs.declared.numbers.Read.the-variants.{Broken, All}
+use Rattle.replay.specs.declared.numbers.Stored.{Stored}
+use Rattle.replay.specs.declared.numbers.Stored.the-variants.{Broken, All}
 
 -- what is told of a line's numbers, and the words afterwards
 pub record Filled : Type 0 where
-  pub told : Read
+  pub told : Stored
   pub words : List ℕ
 
-abbrev pub filled : Read → List ℕ → Filled
+abbrev pub filled : Stored → List ℕ → Filled
 filled told w = record { told = told; words = w }
 
 -- one number at a place, if it is a number and the place is one of the list's
@@ -38,12 +38,12 @@ abbrev pub numbersOf : List ℕ → List ℕ → Filled
 numbersOf text w = fill (fields text) w 0
 
 -- what the first number of a line says that is wrong on purpose
-abbrev pub wrong : ℕ
-wrong = 999
+abbrev pub wrongMark : ℕ
+wrongMark = 999
 
 abbrev pub isNumber : ℕ → Parsed → Bool
 isNumber n No = false
 isNumber n (Is v) = eqb v n
 
 unfoldable pub onPurpose : List ℕ → Bool
-onPurpose l = isNumber wrong (number (partOf 0 (placeFrom comma 0 l) l))
+onPurpose l = isNumber wrongMark (number (partOf 0 (placeFrom comma 0 l) l))

@@ -6,13 +6,13 @@ use lib.Dec.{eqb, ltb, leb}
 use lib.ListN.{length, set, take, drop}
 use Rattle.scenario_lines.specs.Lines.{lf}
 use Rattle.replay.specs.declared.reading.Reading.{Reading}
-use Rattle.replay.specs.declared.reading.Taken.{Taken}
+use Rattle.replay.specs.declared.reading.TakenSome.{TakenSome}
 
 abbrev pub reads : ℕ → ℕ → ℕ → Bool → Bool → Reading
 reads len from held done over = record { len = len; from = from; held = held; done = done; over = over }
 
-abbrev pub unread : Reading
-unread = reads 0 0 0 false false
+abbrev pub beforeReading : Reading
+beforeReading = reads 0 0 0 false false
 
 abbrev pub usedUp : Reading → Bool
 usedUp r = leb (r .len) (r .from)
@@ -35,8 +35,8 @@ abbrev pub taking : List ℕ → ℕ → ℕ → Bool → Took
 taking l n used done = record { line = l; held = n; used = used; done = done }
 
 -- one byte more before these
-abbrev pub oneMore : Took → Took
-oneMore t = taking (t .line) (t .held) (suc (t .used)) (t .done)
+abbrev pub byteBefore : Took → Took
+byteBefore t = taking (t .line) (t .held) (suc (t .used)) (t .done)
 
 -- a line of n bytes with one more; all that are longer than the room count alike
 abbrev pub grown : ℕ → ℕ → ℕ
@@ -44,18 +44,18 @@ grown room n = cond (ltb n room) (n + 1) (room + 1)
 
 unfoldable pub took : List ℕ → List ℕ → ℕ → Took
 took [] l n = taking l n 0 false
-took (b ∷ bs) l n = cond (eqb b lf) (taking l n 1 true) (oneMore (took bs (set l n b) (grown (length l) n)))
+took (b ∷ bs) l n = cond (eqb b lf) (taking l n 1 true) (byteBefore (took bs (set l n b) (grown (length l) n)))
 
 -- as the code returns it, from a place of the chunk on
-abbrev pub takenFrom : ℕ → Took → Taken
+abbrev pub takenFrom : ℕ → Took → TakenSome
 takenFrom from t = record { held = t .held; at = from + t .used; done = t .done }
 
 -- what is taken of a chunk, of which the first len bytes count
 unfoldable pub ofChunk : List ℕ → List ℕ → Reading → Took
 ofChunk chunk l r = took (drop (r .from) (take (min (r .len) (length chunk)) chunk)) l (opened r)
 
-abbrev pub takenBy : List ℕ → List ℕ → Reading → Reading
-takenBy chunk l r = let t = ofChunk chunk l r in reads (r .len) (r .from + t .used) (t .held) (t .done) (r .over)
+abbrev pub lineTaken : List ℕ → List ℕ → Reading → Reading
+lineTaken chunk l r = let t = ofChunk chunk l r in reads (r .len) (r .from + t .used) (t .held) (t .done) (r .over)
 
 abbrev pub lineBy : List ℕ → List ℕ → Reading → List ℕ
 lineBy chunk l r = ofChunk chunk l r .line

@@ -28,29 +28,34 @@ agreed t = tallied (oneUp (t .line)) (oneUp (t .equal)) (t .different) (t .unrea
 abbrev pub differed : Tally → Tally
 differed t = tallied (oneUp (t .line)) (t .equal) (oneUp (t .different)) (t .unreadable) (t .outside) (t .found)
 
-abbrev pub unread : Tally → Tally
-unread t = tallied (oneUp (t .line)) (t .equal) (t .different) (oneUp (t .unreadable)) (t .outside) (t .found)
+abbrev pub leftUnread : Tally → Tally
+leftUnread t = tallied (oneUp (t .line)) (t .equal) (t .different) (oneUp (t .unreadable)) (t .outside) (t .found)
 
-abbrev pub outside : Tally → Tally
-outside t = tallied (oneUp (t .line)) (t .equal) (t .different) (t .unreadable) (oneUp (t .outside)) (t .found)
+abbrev pub leftOutside : Tally → Tally
+leftOutside t = tallied (oneUp (t .line)) (t .equal) (t .different) (t .unreadable) (oneUp (t .outside)) (t .found)
 
-abbrev pub found : Tally → Tally
-found t = tallied (oneUp (t .line)) (t .equal) (t .different) (t .unreadable) (t .outside) (oneUp (t .found))
+abbrev pub foundWrong : Tally → Tally
+foundWrong t = tallied (oneUp (t .line)) (t .equal) (t .different) (t .unreadable) (t .outside) (oneUp (t .found))
 
 -- a row of a list that tells only whether its lines agree
 abbrev pub counted : Tally → Bool → Tally
 counted t true = agreed t
 counted t false = differed t
 
+-- a last line with no break may be cut short
+abbrev pub cutShort : Tally → Bool → Tally
+cutShort t true = differed t
+cutShort t false = t
+
 -- a line that is wrong on purpose is found where it differs or cannot be read; any other verdict on it differs from what it is there for
 abbrev pub afterVerdict : Tally → Bool → Verdict → Tally
 afterVerdict t false Agrees = agreed t
 afterVerdict t false Differs = differed t
-afterVerdict t false Unreadable = unread t
-afterVerdict t false Outside = outside t
+afterVerdict t false Unreadable = leftUnread t
+afterVerdict t false Outside = leftOutside t
 afterVerdict t true Agrees = differed t
-afterVerdict t true Differs = found t
-afterVerdict t true Unreadable = found t
+afterVerdict t true Differs = foundWrong t
+afterVerdict t true Unreadable = foundWrong t
 afterVerdict t true Outside = differed t
 
 abbrev pub rowsOf : Tally → ℕ

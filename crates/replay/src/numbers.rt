@@ -10,14 +10,14 @@ use scenario_lines::number::parse_number;
 const WRONG: u64 = 999;
 
 // What became of what a line holds: how many of them there are.
-pub enum Read {
+pub enum Stored {
     // One of them cannot be read, or has no room.
     Broken,
     All(usize),
 }
 
 // The numbers of a line go to the start of `words`, up to the first that is none or has no room.
-pub fn numbers(text: &[u8], words: &mut [u64]) -> Read
+pub fn numbers(text: &[u8], words: &mut [u64]) -> Stored
     ensures { λ r. ⌜ r ≡ numbersOf (now (text .entry)) (now (words .entry)) .told ⌝ }
     ensures { λ _. ⌜ now (words .exit) ≡ numbersOf (now (text .entry)) (now (words .entry)) .words ⌝ }
 {
@@ -26,11 +26,11 @@ pub fn numbers(text: &[u8], words: &mut [u64]) -> Read
     loop {
         let end = find(text, at, b',');
         if !put(words, n, parse_number(part(text, at, end))) {
-            return Read::Broken;
+            return Stored::Broken;
         }
         n += 1;
         if end >= text.len() {
-            return Read::All(n);
+            return Stored::All(n);
         }
         at = end + 1;
     }

@@ -2,7 +2,7 @@
 ghost use mathlib.Core.Path.{_≡_};
 ghost use lib.ListN.{length, set, take, drop};
 ghost use Prim.Native.Nat.{min};
-ghost use Rattle.replay.specs.Reading.{unread, usedUp, afterRead, opened, grown, took, takenFrom, takenBy, lineBy, isWhole, isCut};
+ghost use Rattle.replay.specs.Reading.{beforeReading, usedUp, afterRead, opened, grown, took, takenFrom, lineTaken, lineBy, isWhole, isCut};
 
 const BREAK: u8 = b'\n';
 
@@ -19,7 +19,7 @@ pub struct Reading {
 }
 
 // What was taken of a chunk.
-struct Taken {
+struct TakenSome {
     held: usize,
     at: usize,
     done: bool,
@@ -27,7 +27,7 @@ struct Taken {
 
 // Before the first read.
 pub fn begin() -> Reading
-    ensures { λ r. ⌜ r ≡ unread ⌝ }
+    ensures { λ r. ⌜ r ≡ beforeReading ⌝ }
 {
     Reading {
         len: 0,
@@ -60,7 +60,7 @@ pub fn after_read(r: Reading, n: usize) -> Reading
 
 // Takes bytes of the chunk until a line is read to its break or none is left. A line that was done makes room.
 pub fn take_line(line: &mut [u8], chunk: &[u8], r: Reading) -> Reading
-    ensures { λ a. ⌜ a ≡ takenBy (now (chunk .entry)) (now (line .entry)) r ⌝ }
+    ensures { λ a. ⌜ a ≡ lineTaken (now (chunk .entry)) (now (line .entry)) r ⌝ }
     ensures { λ _. ⌜ now (line .exit) ≡ lineBy (now (chunk .entry)) (now (line .entry)) r ⌝ }
 {
     let bytes = program_chunks::front(chunk, r.len);
@@ -101,7 +101,7 @@ fn open(r: Reading) -> usize
     if r.done { 0 } else { r.held }
 }
 
-fn take_some(line: &mut [u8], chunk: &[u8], from: usize, held: usize) -> Taken
+fn take_some(line: &mut [u8], chunk: &[u8], from: usize, held: usize) -> TakenSome
     ensures { λ r. ⌜ r ≡ takenFrom from (took (drop from (now (chunk .entry))) (now (line .entry)) held) ⌝ }
     ensures { λ _. ⌜ now (line .exit) ≡ took (drop from (now (chunk .entry))) (now (line .entry)) held .line ⌝ }
 {
@@ -111,7 +111,7 @@ fn take_some(line: &mut [u8], chunk: &[u8], from: usize, held: usize) -> Taken
         let b = chunk[i];
         i += 1;
         if b == BREAK {
-            return Taken {
+            return TakenSome {
                 held: n,
                 at: i,
                 done: true,
@@ -119,7 +119,7 @@ fn take_some(line: &mut [u8], chunk: &[u8], from: usize, held: usize) -> Taken
         }
         n = keep(line, n, b);
     }
-    Taken {
+    TakenSome {
         held: n,
         at: i,
         done: false,

@@ -1,7 +1,7 @@
 // What became of each line of a list, counted and printed.
 ghost use mathlib.Core.Bool.{true, false};
 ghost use mathlib.Core.Path.{_≡_};
-ghost use Rattle.replay.specs.Tally.{fresh, passed, agreed, differed, unread, outside, found, counted, afterVerdict, rowsOf, sumOf};
+ghost use Rattle.replay.specs.Tally.{fresh, passed, agreed, differed, leftUnread, leftOutside, foundWrong, counted, cutShort, afterVerdict, rowsOf, sumOf};
 use libc::STDOUT_FILENO;
 
 // How many lines that differ are named.
@@ -55,6 +55,13 @@ pub fn count(t: Tally, equal: bool) -> Tally
     ensures { λ r. ⌜ r ≡ counted t equal ⌝ }
 {
     if equal { agree(t) } else { differ(t) }
+}
+
+// A last line with no break may be cut short, and counts as different.
+pub fn count_cut(t: Tally, cut: bool) -> Tally
+    ensures { λ r. ⌜ r ≡ cutShort t cut ⌝ }
+{
+    if cut { differ(t) } else { t }
 }
 
 // A line, which is wrong on purpose or not. A wrong one has to be found.
@@ -144,7 +151,7 @@ fn differ(t: Tally) -> Tally
 }
 
 fn leave_unread(t: Tally) -> Tally
-    ensures { λ r. ⌜ r ≡ unread t ⌝ }
+    ensures { λ r. ⌜ r ≡ leftUnread t ⌝ }
 {
     print(b"unreadable at line ", t.line);
     let mut after = pass(t);
@@ -153,7 +160,7 @@ fn leave_unread(t: Tally) -> Tally
 }
 
 fn leave_outside(t: Tally) -> Tally
-    ensures { λ r. ⌜ r ≡ outside t ⌝ }
+    ensures { λ r. ⌜ r ≡ leftOutside t ⌝ }
 {
     let mut after = pass(t);
     after.outside = up(t.outside);
@@ -161,7 +168,7 @@ fn leave_outside(t: Tally) -> Tally
 }
 
 fn find(t: Tally, how: &[u8]) -> Tally
-    ensures { λ r. ⌜ r ≡ found t ⌝ }
+    ensures { λ r. ⌜ r ≡ foundWrong t ⌝ }
 {
     print(how, t.line);
     let mut after = pass(t);

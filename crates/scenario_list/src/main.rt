@@ -8,7 +8,7 @@ use cell::pred::Pred;
 use libc::STDIN_FILENO;
 use machine::ROW_WORDS;
 use replay::lists;
-use replay::numbers::Read;
+use replay::numbers::Stored;
 use replay::reading;
 use replay::reading::Reading;
 use replay::tally;
@@ -36,7 +36,7 @@ fn main() {
     report(reading, tally);
 }
 
-// A chunk where the last one is used up, else bytes of it up to a line's end. A read that fails ends the list.
+// A chunk where the last one is used up, else bytes of it up to a line's end. A read that fails ends the list, and the number of rows then shows it.
 fn read_on(chunk: &mut [u8; 65536], line: &mut [u8; 65536], reading: Reading) -> Reading {
     if !reading::is_used_up(reading) {
         return reading::take_line(line, chunk, reading);
@@ -56,12 +56,7 @@ fn on_line(line: &[u8; 65536], reading: Reading, tally: Tally) -> Tally {
 
 // A last line with no break may be cut short, and counts as different.
 fn report(reading: Reading, tally: Tally) {
-    let last = if reading::is_cut(reading) {
-        tally::count(tally, false)
-    } else {
-        tally
-    };
-    tally::report(last);
+    tally::report(tally::count_cut(tally, reading::is_cut(reading)));
 }
 
 // What the file before the bar prints is what stands behind it.
@@ -72,35 +67,35 @@ fn is_row(line: &[u8]) -> bool {
     }
     let mut file = io::buffer();
     let mut text = io::buffer();
-    let Read::All(n) = bytes_in(lists::part(line, 0, bar), &mut file) else {
+    let Stored::All(n) = bytes_in(lists::part(line, 0, bar), &mut file) else {
         return false;
     };
-    let Read::All(m) = bytes_in(lists::part(line, bar + 1, line.len()), &mut text) else {
+    let Stored::All(m) = bytes_in(lists::part(line, bar + 1, line.len()), &mut text) else {
         return false;
     };
     is_printed(lists::part(&file, 0, n), lists::part(&text, 0, m))
 }
 
 // Bytes, some of them as a backslash with two digits of base 16, go to the start of `bytes`; how many there are. No bar is among them.
-fn bytes_in(text: &[u8], bytes: &mut [u8]) -> Read {
+fn bytes_in(text: &[u8], bytes: &mut [u8]) -> Stored {
     let mut n = 0;
     let mut at = 0;
     while at < text.len() {
         let width = width_of(text[at]);
         if width > text.len() - at {
-            return Read::Broken;
+            return Stored::Broken;
         }
         let Byte::Is(b) = byte_in(lists::part(text, at, at + width)) else {
-            return Read::Broken;
+            return Stored::Broken;
         };
         if n >= bytes.len() {
-            return Read::Broken;
+            return Stored::Broken;
         }
         bytes[n] = b;
         n += 1;
         at += width;
     }
-    Read::All(n)
+    Stored::All(n)
 }
 
 fn width_of(b: u8) -> usize

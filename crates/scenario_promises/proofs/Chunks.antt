@@ -11,7 +11,7 @@ use Rattle.scenario_read.specs.Feed.{World, mostWords, feed, nextOf, over}
 use Rattle.scenario_read.specs.declared.Move.the-variants.{Rest}
 use Rattle.scenario_promises.specs.Session.{handed, took, wrote, fileWords, Session, MayCome}
 use Rattle.scenario_promises.specs.Whole.{allTurns, mostBytes}
-use Rattle.scenario_promises.specs.Chunks.{RoomLeft, Stopped, HandedOver, MayFollow, ChunkByChunk, ChunkTaken, ChunksAll, ChunksOn, FewCalls, FedIsSession}
+use Rattle.scenario_promises.specs.Chunks.{RoomLeft, Stopped, HandedOver, MayFollow, ChunkByChunk, ChunkTaken, ChunksAll, ChunksOn, FewCalls, HandedOverIsSession}
 use Rattle.scenario_promises.proofs.Spans.{span-rest}
 use Rattle.scenario_promises.proofs.Rests.{call-keeps}
 use Rattle.scenario_promises.proofs.Session.{last-out, rests-late, goes-on, rows-all, rows-on}
@@ -140,8 +140,8 @@ chunks-on chunks chunk final n words w f later none = begin chunks chunk final n
 pub few-calls : FewCalls
 few-calls chunks chunk final n words w f = known f .few
 
-pub fed-is-session : FedIsSession
-fed-is-session chunks chunk final n words w f = let k = known f in (k .bytes, k .session)
+pub handed-over-is-session : HandedOverIsSession
+handed-over-is-session chunks chunk final n words w f = let k = known f in (k .bytes, k .session)
 
 pub chunks : ChunkByChunk
 chunks cs chunk n words w f roomed =

@@ -69,7 +69,7 @@ FewCalls =
     → n ≤ length chunks + length words
 
 -- these calls are a session: what is claimed of sessions is so of them
-abbrev pub FedIsSession : Type 0
-FedIsSession =
+abbrev pub HandedOverIsSession : Type 0
+HandedOverIsSession =
     (chunks : List (List ℕ)) (chunk : List ℕ) (final : Bool) (n : ℕ) (words : List ℕ) (w : World) → HandedOver chunks chunk final n words w
     → (bytes : List ℕ) × Session bytes words w

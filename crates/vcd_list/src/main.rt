@@ -6,7 +6,7 @@ ghost use Prim.Native.Nat.{_≤_};
 use libc::STDIN_FILENO;
 use replay::lists;
 use replay::numbers;
-use replay::numbers::Read;
+use replay::numbers::Stored;
 use replay::reading;
 use replay::reading::Reading;
 use replay::tally;
@@ -50,7 +50,7 @@ fn main() {
     report(&line, reading, tally);
 }
 
-// A chunk where the last one is used up, else bytes of it up to a line's end. A read that fails ends the list.
+// A chunk where the last one is used up, else bytes of it up to a line's end. A read that fails ends the list, and the number of rows then shows it.
 fn read_on(chunk: &mut [u8; 65536], line: &mut [u8; 65536], reading: Reading) -> Reading {
     if !reading::is_used_up(reading) {
         return reading::take_line(line, chunk, reading);
@@ -97,10 +97,10 @@ fn verdict_on(line: &[u8]) -> Verdict {
     }
     let mut words = [0; WORDS];
     let mut bytes = [0; BYTES];
-    let Read::All(n) = numbers::numbers(lists::part(line, 0, bar), &mut words) else {
+    let Stored::All(n) = numbers::numbers(lists::part(line, 0, bar), &mut words) else {
         return Verdict::Unreadable;
     };
-    let Read::All(m) = bytes_in(lists::part(line, bar + 1, line.len()), &mut bytes) else {
+    let Stored::All(m) = bytes_in(lists::part(line, bar + 1, line.len()), &mut bytes) else {
         return Verdict::Unreadable;
     };
     replay_call(lists::words(&words, 0, n), lists::part(&bytes, 0, m))
@@ -166,26 +166,26 @@ fn words_of(line: &[u64]) -> &[u64] {
 }
 
 // Bytes, some of them as a backslash with three digits, go to the start of `bytes`; how many there are.
-fn bytes_in(text: &[u8], bytes: &mut [u8]) -> Read {
+fn bytes_in(text: &[u8], bytes: &mut [u8]) -> Stored {
     let mut n = 0;
     let mut at = 0;
     while at < text.len() {
         let width = width_of(text[at]);
         if width > text.len() - at {
-            return Read::Broken;
+            return Stored::Broken;
         }
         let b = byte_in(lists::part(text, at, at + width));
         if b > 255 {
-            return Read::Broken;
+            return Stored::Broken;
         }
         if n >= bytes.len() {
-            return Read::Broken;
+            return Stored::Broken;
         }
         bytes[n] = b as u8;
         n += 1;
         at += width;
     }
-    Read::All(n)
+    Stored::All(n)
 }
 
 fn width_of(b: u8) -> usize
