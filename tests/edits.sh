@@ -77,8 +77,9 @@ case ${1-} in
     case ${2-} in
     '') list crates/*/must-fail*/*.edit tests/across/*.edit ;;
     *)
-        set -- "crates/$2"/must-fail*/*.edit
-        [ -f "$1" ] || { echo "edits: there are none of a crate ${1#crates/}: 'ls crates' has the names" | sed 's|/must-fail[^:]*||' >&2; exit 1; }
+        name=$2
+        set -- "crates/$name"/must-fail*/*.edit
+        [ -f "$1" ] || { echo "edits: there are none of a crate $name: 'ls crates' has the names" >&2; exit 1; }
         list "$@"
         ;;
     esac

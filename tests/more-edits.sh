@@ -37,6 +37,11 @@ trap 'rm -rf "$room"' EXIT
 # what is proved need not be proved again
 rt check "$@" >"$logs/check" 2>&1 || { tail -n 3 "$logs/check" >&2; echo "more-edits: not all crates are proved: rt check says why" >&2; exit 1; }
 
+# first LOG: where the first fact failed, as far as it is told
+first() {
+    sed -n -e 's/^\([^ ]*\): error.*/\1/p' -e 's/^note: \([^ ]*:[0-9]*:[0-9]*\):.*/\1/p' "$1" | sed -e 's|.*/crates/||' -e 1q
+}
+
 # refused LOG STATUS: the prover took the crate, and not all of it is proved
 refused() {
     [ "$2" -eq 1 ] && grep -q '^logic=not-proved' "$1"
@@ -52,12 +57,17 @@ try() {
     took=$(($(date +%s) - began))
     rm -rf "crates/$1"
     mv kept "crates/$1"
-    first=$(grep -m 1 -o '^[^ ]*: error' "$logs/$1/$label" | sed 's/: error$//; s|.*/crates/||')
+    at=$(first "$logs/$1/$label")
     if refused "$logs/$1/$label" "$status"; then
-        echo "$1/$label: refused (${first:+first at $first; }$took s)"
+        echo "$1/$label: refused (${at:+first at $at; }$took s)"
     else
         echo "$1/$label: NOT REFUSED (status $status, $took s)"
     fi
+}
+
+# unedited CRATE: it is proved, before its edits and after them, so that no refusal comes of what an edit before has left
+unedited() {
+    rt dev "$1" >"$logs/$1/unedited" 2>&1 || echo "$1: NOT REFUSED, and not proved without an edit either"
 }
 
 # work CRATE...: one crate after another, in a copy of its own
@@ -71,12 +81,13 @@ work() {
     git init -q
     for crate in "$@"; do
         mkdir -p "$logs/$crate"
-        rt dev "$crate" >"$logs/$crate/unedited" 2>&1 || echo "$crate: NOT REFUSED: it is not proved without an edit"
+        unedited "$crate"
         for folder in $folders; do
             for edit in "$here/crates/$crate/$folder"/*.edit; do
                 [ ! -f "$edit" ] || try "$crate" "$edit"
             done
         done
+        unedited "$crate"
     done
 }
 
