@@ -1,0 +1,70 @@
+# Prints the trace of a scenario in words, a line for each row as it comes: number, thread, what the thread did and got, flag, count.
+# usage: LC_ALL=C awk -f tools/rows.awk -f tools/explain.awk SCENARIO TRACE        (TRACE may be - for standard input)
+# Where TRACE is not the trace of SCENARIO it says so on standard error, and its status is 2.
+
+function head() { tell("row", "thread", "what it does", "flag", "count") }
+
+function row() { tell($1, thread, answer ? "refused " answer ": " why() : words(), exc ? "up" : "down", rc) }
+
+function last() {
+    if (refusal == "") return
+    print "the scenario is refused " (refused_line ? "at line " refused_line ", " : "") "with " refusal
+}
+
+# Whoever reads a trace through a pipe reads each row before the next one comes, hence the flush.
+function tell(n, who, what, flag, count) {
+    printf "%5s  %6s  %-70s  %4s  %5s\n", n, who, what, flag, count
+    fflush()
+}
+
+function words() {
+    if (access <= 6) return reader()
+    return (access <= 9 && code == 7 ? "into_inner " : "") writer()
+}
+
+function reader() {
+    if (access == 1 && got "" == top) return "waits" for_ever(dropped_reads "" == top) ": the count is full (" got ")"
+    if (access == 1) return "looks at the count: " got
+    if (access == 2 && got) return "counts itself: the count is " rc
+    if (access == 2) return "waits: the count has changed since it looked"
+    if (access == 3 && got) return "waits" for_ever(dropped_writes) ": the flag is up, so it must take itself off the count"
+    if (access == 3) return "no writer: has a read handle"
+    if (access == 4) return "takes itself off the count again: the count is " rc
+    if (access == 5) return "borrows " got
+    return "gives its read handle back"
+}
+
+function writer() {
+    if (access == 7 && got) return "puts the flag up"
+    if (access == 7) return "waits" for_ever(dropped_writes) ": the flag is up"
+    if (access == 8 && got == 0) return code == 7 ? "may take the value: the count is 0" : "the count is 0: may take the value"
+    if (access == 8) return "waits" for_ever(dropped_reads) ": the count is " got
+    if (access == 9) return "takes " got (code == 7 ? " for good: the lock is finished" : "")
+    if (access == 10) return "puts " got
+    if (access == 11) return "puts the flag down: " cell " is released"
+    if (from == "Reading") return "drops its read handle: it stays counted"
+    return "drops its write handle: the flag stays up and the value is gone"
+}
+
+# Nothing takes a dropped read off the count, and nothing takes the flag down after a dropped write.
+function for_ever(dropped) { return dropped ? " for ever" : "" }
+
+# Why the entry is refused.
+function why() {
+    if (answer == 11) return "there is no thread " thread ", only " (threads == 1 ? "thread 0" : "0 to " (threads - 1))
+    if (answer == 12) return ops[thread] ? "its script is finished" : "its script is empty"
+    if (answer == 13 && mover != "") return "thread " mover " has begun into_inner"
+    if (answer == 13) return "the lock is finished, by into_inner of thread " finisher
+    if (answer == 14) return NAME[code] " does not fit at " from ": it has " hold(from)
+    if (answer == 15) return "into_inner cannot begin: " others(not_idle(thread)) " not Idle"
+    return value[thread, number - 1] " is not permitted, only " permitted()
+}
+
+function hold(at) { return at == "Reading" ? "a read handle" : at == "Writing" ? "a write handle" : "no handle" }
+
+# 'thread 0 is', 'threads 0, 1 and 3 are'
+function others(list,    n, i, part, text) {
+    n = split(list, part, " ")
+    for (i = 1; i <= n; i++) text = text (i == 1 ? "" : i == n ? " and " : ", ") part[i]
+    return n == 1 ? "thread " text " is" : "threads " text " are"
+}

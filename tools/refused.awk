@@ -1,0 +1,269 @@
+# Prints in one line of words what a refusal means and what to do about it, from the two lines that a program tells of it:
+#     refused,NUMBER,LINE
+#     read,STAGE,M,FIRST,THREADS,THREAD,LEN,B,B,B,...
+# usage: LC_ALL=C awk -v file=NAME -f tools/refused.awk
+# The second line may be missing. STAGE is which line may come next (0 header, 1 lock, 2 pred, 3 op or run, 4 run); M, FIRST and THREADS are
+# those of the lock line, THREAD that of the op line before; LEN is how many bytes the refused line has, 81 for more than 80 and 0 also where
+# the file ended before a line came; the rest are its bytes, at most 80. NAME, for commands that mend the file, is - or empty for standard
+# input; awk reads a backslash in it as the start of an escape. The rules are in docs/RULES.md, sections 10 and 16.
+#
+# Numbers of a file go up to 2^64 - 1, which awk's numbers do not hold: they are text here, compared by length and then as text.
+
+BEGIN {
+    FS = ","
+    LARGEST = "18446744073709551615"
+    HEADER = "kind,a,b,c"
+    split("acquire_read borrow release_read acquire_write release_write drop into_inner", NAME, " ")
+    split("first second third fourth", NTH, " ")
+    kind_of_line("lock", "M,FIRST,THREADS", "the most readers", "the first value", "the number of threads")
+    kind_of_line("pred", "KIND,A,B", "the predicate's kind", "its first parameter", "its second parameter")
+    kind_of_line("op", "THREAD,OPERATION,VALUE", "the thread", "the operation", "the value")
+    kind_of_line("run", "THREAD,TIMES,0", "the thread", "times", "always 0")
+}
+
+{ sub(/\r$/, "") }
+$1 == "refused" && number == "" { number = $2 ""; line = $3 "" }
+$1 == "read" && !told { told = 1; look() }
+END {
+    if (number == "") exit 1
+    print "trestlecat: refused " number where() ": " what()
+}
+
+function kind_of_line(kind, form, second, third, fourth) {
+    FORM[kind] = kind "," form
+    MEANS[kind, 2] = second
+    MEANS[kind, 3] = third
+    MEANS[kind, 4] = fourth
+}
+
+# The line's bytes, its text in which every byte can be seen, and its fields. Where[f] is the place before field f's first byte.
+function look(    i) {
+    stage = $2 + 0
+    top = $3 ""
+    first = $4 ""
+    threads = $5 ""
+    thread = $6 ""
+    long = $7 > 80
+    bytes = long ? 80 : $7 + 0
+    fields = 1
+    for (i = 1; i <= bytes; i++) {
+        byte[i] = $(i + 7) + 0
+        times[byte[i]]++
+        if (!(byte[i] in place)) place[byte[i]] = i
+        text = text visible(byte[i])
+        if (byte[i] == 44) fields++
+        else field[fields] = field[fields] visible(byte[i])
+    }
+    for (i = 1; i <= fields; i++) field[i] = field[i] ""
+    kind = field[1]
+}
+
+function visible(b) {
+    if (b >= 32 && b <= 126) return sprintf("%c", b)
+    if (b == 0) return "<NUL>"
+    if (b == 9) return "<TAB>"
+    if (b == 10) return "<LF>"
+    if (b == 13) return "<CR>"
+    return "<" substr("0123456789ABCDEF", int(b / 16) + 1, 1) substr("0123456789ABCDEF", b % 16 + 1, 1) ">"
+}
+
+# As much of the line as shows which it is, cut between two bytes.
+function shown(    i, part) {
+    for (i = 1; i <= bytes && length(part) < 40; i++) part = part visible(byte[i])
+    return "'" part "'" (i <= bytes || long ? "..." : "")
+}
+
+function ended() { return told && number == "32" && bytes == 0 }
+
+function where() {
+    if (line == "0") return ""
+    if (ended()) return " at line " line ", where the file has ended"
+    return " at line " line (told ? ", " shown() : "")
+}
+
+function what() {
+    if (number == "17") return "the scripts are not tidy: see docs/RULES.md, section 12"
+    if (number == "41") return "the waveform has more than 262,144 bytes or 16,383 rows: read one of a shorter scenario"
+    if (number == "42") return "this is not, byte for byte, a waveform as './trestlecat wave' writes them: make it again from its scenario"
+    if (!told) return untold()
+    if (number == "31") return broken()
+    if (ended()) return missing("is not there", "add it at the end")
+    if (number == "32") return line == "1" ? no_header() : out_of_order()
+    if (number ~ /^[1-4]$/) return setup()
+    if (number == "5") return "this is op line 65 of thread " field[2] ", and 64 are the most: take it out, or give it to another thread"
+    if (number == "7") return operation()
+    return untold()
+}
+
+# What can be said of a number where nothing is told of the line.
+function untold() {
+    if (number == "31") return "the form of the line is broken: see docs/RULES.md, section 16"
+    if (number == "32") return "the line stands in the wrong place, or is missing: see docs/RULES.md, section 16"
+    return "see number " number " in docs/RULES.md, section 10"
+}
+
+# ---- Numbers, and what is common to sentences
+
+function below(x, y) { return length(x) < length(y) || length(x) == length(y) && x "" < y "" }
+
+# 'the third field, times, is '007''
+function named(f) { return "the " NTH[f] " field" ((kind, f) in MEANS ? ", " MEANS[kind, f] "," : "") " is '" field[f] "'" }
+
+# A word for a shell. A name that would break the line is left to the reader.
+function quoted(name) {
+    if (name ~ /[[:cntrl:]]/) return "FILE"
+    if (name !~ /[^A-Za-z0-9_.,\/:@%+-]/) return name
+    gsub(/'/, "'\\''", name)
+    return "'" name "'"
+}
+
+# The command that mends the file, from what reads it: words behind the file's name are the rest of a pipe.
+function mend(reader, rest) {
+    if (file == "" || file == "-") return "send it through " reader rest
+    return "mend it with " reader " <" quoted(file) rest " >mended.csv"
+}
+
+function breaks() { return " | awk -v ORS='\\r\\n' 1" }
+
+# ---- 31: the form of a line
+
+# Breaks come before the length, since a whole file without a right break is one long line.
+function broken() {
+    if (line == "1" && wide()) return "the file is UTF-16: save it as plain text in ASCII, or in UTF-8 without a byte order mark"
+    if (10 in times) return "a line must end with CR LF, and here is an LF alone, as most editors write it: " mend("tr -d '\\r'", breaks())
+    if (13 in times) return alone()
+    if (line == "1" && marked()) return byte_order_mark()
+    if (long) return "the line has more than 80 bytes, and a right one never has: shorten it, or look for a missing line break"
+    if (34 in times) return "there is a quote, and fields stand without quotes: " mend("tr -d '\"'")
+    if (bytes == 0) return "the line is empty, which is wrong at the end of a file too: take it out"
+    if (text ~ /^( |<TAB>)*$/) return "the line is blank, which is wrong at the end of a file too: take it out"
+    if (fields != 4) return field_count()
+    if (text == HEADER) return "the header stands in line 1 only: take this line out"
+    return fields_broken()
+}
+
+# UTF-16 with its byte order mark, or without: then every other byte is 0.
+function wide() {
+    return byte[1] == 255 && byte[2] == 254 || byte[1] == 254 && byte[2] == 255 || bytes > 1 && byte[1] * byte[2] == 0
+}
+
+function marked() { return byte[1] == 239 && byte[2] == 187 && byte[3] == 191 }
+
+function byte_order_mark() { return "the file starts with a byte order mark, as spreadsheets write it: " mend("tail -c +4") }
+
+# A CR without an LF behind it: at the line's end, in place of every break, or somewhere inside.
+function alone() {
+    if (place[13] == bytes && !long)
+        return "a line must end with CR LF, and here is a CR alone at its end: " mend("tr -d '\\r'", breaks())
+    if (text ~ /<CR>(lock|pred|op|run),/) return "a line must end with CR LF, and here is a CR alone: " mend("tr '\\r' '\\n'", breaks())
+    return "there is a CR without an LF inside the line: take it out, or put an LF behind it where the line should end"
+}
+
+function field_count() {
+    if (times[59] == 3) return "there are semicolons in place of commas: " mend("tr ';' ','")
+    if (times[9] == 3) return "there are tabs in place of commas: " mend("tr '\\t' ','")
+    if (fields > 4) return "the line has " fields " fields, and 4 are right: write it as " form() ", with no commas inside numbers"
+    return "the line has " fields (fields == 1 ? " field" : " fields") ", and 4 are right: write it as " form()
+}
+
+# The form of this kind of line, or of the line that may come.
+function form() {
+    if (stage > 0 && kind in FORM) return FORM[kind]
+    if (stage == 0) return HEADER
+    if (stage == 1) return FORM["lock"]
+    if (stage == 2) return FORM["pred"]
+    return stage == 3 ? FORM["op"] " or " FORM["run"] : FORM["run"]
+}
+
+function fields_broken(    f, why) {
+    for (f = 2; f <= 4; f++) {
+        why = no_number(field[f])
+        if (why != "") return named(f) ", " why
+    }
+    if (below("255", field[2])) return named(2) ", and 255 is the most: write a thread's number, from 0 on"
+    if (field[3] == "0") return named(3) ", and 1 is the least: write how often the thread comes, or take the line out"
+    if (below("65535", field[3])) return named(3) ", and 65535 is the most: write several run lines"
+    return named(4) ": write 0 there"
+}
+
+# Why a field is no number, and what to do; nothing where it is one.
+function no_number(x) {
+    if (x == "") return "which is empty: write a number there, 0 where none is meant"
+    if (x ~ / |<TAB>/) return "which has a space: write digits only"
+    if (x ~ /^[-+]/) return "which has a sign: write digits only, for 0 or more"
+    if (x ~ /^[0-9]*[.][0-9.]*$/) return "which has a point: write a whole number, digits only"
+    if (x ~ /[^0-9]/) return "which is not a number: write digits only"
+    if (x ~ /^0./) return "which has a needless zero in front: write " plain(x)
+    if (below(LARGEST, x)) return "which is too large: write at most " LARGEST
+    return ""
+}
+
+function plain(x) {
+    sub(/^0+/, "", x)
+    return x == "" ? "0" : x
+}
+
+# ---- 32: the order of lines
+
+function no_header(    bare) {
+    if (marked()) return byte_order_mark()
+    bare = text
+    gsub(/ |<TAB>/, "", bare)
+    if (bare == HEADER) return "the header has spaces: write it as " HEADER
+    if (tolower(bare) == HEADER) return "the header has capital letters" (bare == text ? "" : " and spaces") ": write it as " HEADER
+    if (kind in FORM) return "the header is missing: put a line " HEADER " before this one"
+    return "this is not the header: line 1 must be " HEADER ", so write that"
+}
+
+# What may come is not there: the line behind it has come, or the file has ended.
+function missing(how, do_this) {
+    if (stage == 0) return "the file is empty: start with the header " HEADER ", then a lock line and a pred line"
+    if (stage == 1) return "the lock line " how ": line 2 must be " FORM["lock"] ", so " do_this
+    return "the pred line " how ": line 3 must be " FORM["pred"] ", so " do_this
+}
+
+function out_of_order() {
+    if (!(kind in FORM)) return unknown()
+    if (stage > 1 && kind == "lock") return "this is a second lock line, and line 2 is the only one: take it out"
+    if (stage > 2 && kind == "pred") return "this is a second pred line, and line 3 is the only one: take it out"
+    if (stage < 3) return missing("is missing", "put it before this one")
+    if (stage == 4) return "this op line stands behind a run line: put it before the first run line"
+    if (!below(field[2], threads)) return no_such_thread()
+    return named(2) ", and the op line before is of thread " thread ": put this line before those of higher threads"
+}
+
+function no_such_thread() {
+    if (threads == "1") return named(2) ", and line 2 makes 1 thread, which is 0: write 0 there, or more threads on line 2"
+    return named(2) ", and line 2 makes " threads " threads, which are 0 to " (threads - 1) ": write one of these, or more threads on line 2"
+}
+
+function unknown(    bare) {
+    bare = tolower(kind)
+    gsub(/ |<TAB>/, "", bare)
+    if (!(bare in FORM)) return "the kind '" kind "' is not known: write lock, pred, op or run"
+    if (length(bare) == length(kind)) return "the kind '" kind "' has capital letters: write " bare
+    return "the kind '" kind "' has spaces" (kind ~ /[A-Z]/ ? " and capital letters" : "") ": write " bare
+}
+
+# ---- 1 to 4, 7: what setup refuses
+
+# The lock line is looked at when the pred line has come.
+function setup(    lock) {
+    lock = "the mistake is on line 2, lock," top "," first "," threads ": "
+    if (number == "1") return lock "the number of threads is " threads ": write 1 to 16 there"
+    if (number == "2") return lock "the most readers, M, is 0: write 1 or more there"
+    if (number == "4") return lock "the first value is " first ", and line 3 permits " permitted() " only: change one of the two"
+    if (below("2", field[2])) return named(2) ": write 0 (any value), 1 (either of two values) or 2 (even or odd)"
+    return named(3) ", and beside kind 2 it says even or odd: write 0 for even or 1 for odd"
+}
+
+function permitted() {
+    if (field[2] == "2") return field[3] == "0" ? "even values" : "odd values"
+    return field[3] == field[4] ? field[3] : "either " field[3] " or " field[4]
+}
+
+function operation(    i, list) {
+    for (i = 1; i <= 7; i++) list = list (i == 1 ? "" : i == 7 ? " or " : ", ") i " (" NAME[i] ")"
+    if (field[3] !~ /^[1-7]$/) return named(3) ": write " list
+    return named(4) ", and " NAME[field[3]] " (" field[3] ") takes none: write 0 there; only release_write (5) has a value"
+}
