@@ -23,7 +23,7 @@ function words() {
 }
 
 function reader() {
-    if (access == 1 && got "" == top) return "waits" for_ever(dropped_reads "" == top) ": the count is full (" got ")"
+    if (access == 1 && got "" == top) return full()
     if (access == 1) return "looks at the count: " got
     if (access == 2 && got) return "counts itself: the count is " rc
     if (access == 2) return "waits: the count has changed since it looked"
@@ -36,9 +36,9 @@ function reader() {
 
 function writer() {
     if (access == 7 && got) return "puts the flag up"
-    if (access == 7) return "waits" for_ever(dropped_writes) ": the flag is up"
+    if (access == 7) return "waits" for_ever(dropped_writes) ": " (dropped_writes ? "a dropped write handle keeps the flag up" : "the flag is up")
     if (access == 8 && got == 0) return code == 7 ? "may take the value: the count is 0" : "the count is 0: may take the value"
-    if (access == 8) return "waits" for_ever(dropped_reads) ": the count is " got
+    if (access == 8) return "waits" for_ever(dropped_reads) ": the count is " got (dropped_reads ? " with a dropped handle in it" : "")
     if (access == 9) return "takes " got (code == 7 ? " for good: the lock is finished" : "")
     if (access == 10) return "puts " got
     if (access == 11) return "puts the flag down: " cell " is released"
@@ -49,18 +49,23 @@ function writer() {
 # Nothing takes a dropped read off the count, and nothing takes the flag down after a dropped write.
 function for_ever(dropped) { return dropped ? " for ever" : "" }
 
+function full(    of_dropped) {
+    of_dropped = dropped_reads "" == top
+    return "waits" for_ever(of_dropped) ": the count is full (" got ")" (of_dropped ? " of dropped handles" : "")
+}
+
 # Why the entry is refused.
 function why() {
     if (answer == 11) return "there is no thread " thread ", only " (threads == 1 ? "thread 0" : "0 to " (threads - 1))
     if (answer == 12) return ops[thread] ? "its script is finished" : "its script is empty"
     if (answer == 13 && mover != "") return "thread " mover " has begun into_inner"
     if (answer == 13) return "the lock is finished, by into_inner of thread " finisher
-    if (answer == 14) return NAME[code] " does not fit at " from ": it has " hold(from)
+    if (answer == 14) return NAME[code] " does not fit at " from ", " hold(from)
     if (answer == 15) return "into_inner cannot begin: " others(not_idle(thread)) " not Idle"
     return value[thread, number - 1] " is not permitted, only " permitted()
 }
 
-function hold(at) { return at == "Reading" ? "a read handle" : at == "Writing" ? "a write handle" : "no handle" }
+function hold(at) { return at == "Reading" ? "with a read handle" : at == "Writing" ? "with a write handle" : "without a handle" }
 
 # 'thread 0 is', 'threads 0, 1 and 3 are'
 function others(list,    n, i, part, text) {

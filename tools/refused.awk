@@ -16,9 +16,9 @@ BEGIN {
     split("acquire_read borrow release_read acquire_write release_write drop into_inner", NAME, " ")
     split("first second third fourth", NTH, " ")
     kind_of_line("lock", "M,FIRST,THREADS", "the most readers", "the first value", "the number of threads")
-    kind_of_line("pred", "KIND,A,B", "the predicate's kind", "its first parameter", "its second parameter")
+    kind_of_line("pred", "KIND,A,B", "the kind of predicate", "the predicate's first parameter", "the predicate's second parameter")
     kind_of_line("op", "THREAD,OPERATION,VALUE", "the thread", "the operation", "the value")
-    kind_of_line("run", "THREAD,TIMES,0", "the thread", "times", "always 0")
+    kind_of_line("run", "THREAD,TIMES,0", "the thread", "times", "which is always 0")
 }
 
 { sub(/\r$/, "") }
@@ -36,7 +36,7 @@ function kind_of_line(kind, form, second, third, fourth) {
     MEANS[kind, 4] = fourth
 }
 
-# The line's bytes, its text in which every byte can be seen, and its fields. Where[f] is the place before field f's first byte.
+# The line's bytes and how often each comes, its text in which every byte can be seen, and its fields.
 function look(    i) {
     stage = $2 + 0
     top = $3 ""
@@ -49,7 +49,6 @@ function look(    i) {
     for (i = 1; i <= bytes; i++) {
         byte[i] = $(i + 7) + 0
         times[byte[i]]++
-        if (!(byte[i] in place)) place[byte[i]] = i
         text = text visible(byte[i])
         if (byte[i] == 44) fields++
         else field[fields] = field[fields] visible(byte[i])
@@ -70,7 +69,7 @@ function visible(b) {
 # As much of the line as shows which it is, cut between two bytes.
 function shown(    i, part) {
     for (i = 1; i <= bytes && length(part) < 40; i++) part = part visible(byte[i])
-    return "'" part "'" (i <= bytes || long ? "..." : "")
+    return "'" part (i <= bytes || long ? "..." : "") "'"
 }
 
 function ended() { return told && number == "32" && bytes == 0 }
@@ -109,18 +108,20 @@ function below(x, y) { return length(x) < length(y) || length(x) == length(y) &&
 # 'the third field, times, is '007''
 function named(f) { return "the " NTH[f] " field" ((kind, f) in MEANS ? ", " MEANS[kind, f] "," : "") " is '" field[f] "'" }
 
-# A word for a shell. A name that would break the line is left to the reader.
+# A word for a shell.
 function quoted(name) {
-    if (name ~ /[[:cntrl:]]/) return "FILE"
     if (name !~ /[^A-Za-z0-9_.,\/:@%+-]/) return name
     gsub(/'/, "'\\''", name)
     return "'" name "'"
 }
 
-# The command that mends the file, from what reads it: words behind the file's name are the rest of a pipe.
-function mend(reader, rest) {
-    if (file == "" || file == "-") return "send it through " reader rest
-    return "mend it with " reader " <" quoted(file) rest " >mended.csv"
+# The command that mends the file: `reader` reads it, `rest` is what the pipe has behind that. Its last name is never that of the file, which
+# the shell would empty first. A name that would break the line is left to the reader.
+function mend(reader, rest,    name, base) {
+    if (file == "" || file == "-") return "send it through this: " reader rest
+    name = base = file ~ /[[:cntrl:]]/ ? "FILE" : file
+    sub(/.*\//, "", base)
+    return "this mends it: " reader " <" quoted(name) rest " >" quoted("mended-" base)
 }
 
 function breaks() { return " | awk -v ORS='\\r\\n' 1" }
@@ -130,7 +131,7 @@ function breaks() { return " | awk -v ORS='\\r\\n' 1" }
 # Breaks come before the length, since a whole file without a right break is one long line.
 function broken() {
     if (line == "1" && wide()) return "the file is UTF-16: save it as plain text in ASCII, or in UTF-8 without a byte order mark"
-    if (10 in times) return "a line must end with CR LF, and here is an LF alone, as most editors write it: " mend("tr -d '\\r'", breaks())
+    if (10 in times) return "a line must end with CR LF, and here is an LF alone, as editors on Linux and macOS write it: " mend("tr -d '\\r'", breaks())
     if (13 in times) return alone()
     if (line == "1" && marked()) return byte_order_mark()
     if (long) return "the line has more than 80 bytes, and a right one never has: shorten it, or look for a missing line break"
@@ -153,7 +154,7 @@ function byte_order_mark() { return "the file starts with a byte order mark, as 
 
 # A CR without an LF behind it: at the line's end, in place of every break, or somewhere inside.
 function alone() {
-    if (place[13] == bytes && !long)
+    if (text !~ /<CR>[^<]|<CR><[^C]/ && !long)
         return "a line must end with CR LF, and here is a CR alone at its end: " mend("tr -d '\\r'", breaks())
     if (text ~ /<CR>(lock|pred|op|run),/) return "a line must end with CR LF, and here is a CR alone: " mend("tr '\\r' '\\n'", breaks())
     return "there is a CR without an LF inside the line: take it out, or put an LF behind it where the line should end"
@@ -232,9 +233,9 @@ function out_of_order() {
     return named(2) ", and the op line before is of thread " thread ": put this line before those of higher threads"
 }
 
-function no_such_thread() {
-    if (threads == "1") return named(2) ", and line 2 makes 1 thread, which is 0: write 0 there, or more threads on line 2"
-    return named(2) ", and line 2 makes " threads " threads, which are 0 to " (threads - 1) ": write one of these, or more threads on line 2"
+function no_such_thread(    wrong) {
+    wrong = named(2) ", and line 2 has " threads (threads == "1" ? " thread" : " threads") ", counted from 0: write "
+    return wrong (threads == "1" ? "0" : "0 to " (threads - 1)) " there" (threads == "16" ? "" : ", or more threads on line 2")
 }
 
 function unknown(    bare) {
@@ -252,7 +253,8 @@ function setup(    lock) {
     lock = "the mistake is on line 2, lock," top "," first "," threads ": "
     if (number == "1") return lock "the number of threads is " threads ": write 1 to 16 there"
     if (number == "2") return lock "the most readers, M, is 0: write 1 or more there"
-    if (number == "4") return lock "the first value is " first ", and line 3 permits " permitted() " only: change one of the two"
+    if (number == "4") return "the first value, on line 2, lock," top "," first "," threads ", is " first ", and this line permits " \
+        permitted() " only: change the value there or the predicate here"
     if (below("2", field[2])) return named(2) ": write 0 (any value), 1 (either of two values) or 2 (even or odd)"
     return named(3) ", and beside kind 2 it says even or odd: write 0 for even or 1 for odd"
 }

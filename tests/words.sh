@@ -1,0 +1,151 @@
+#!/bin/sh
+# Tests what is told in words, whole lines, with every awk that is here:
+#   tests/words/refused.txt   each cause of a refusal: the file and the line that must come; where that names a command, the command must mend the file
+#   examples, tests/words/rows-*.csv    each trace (.out) in words (.words)
+#   tests/words/untidy-*.csv            why the state at the end of the trace (.out) is not tidy (.says)
+# usage: tests/words.sh [-s]
+#   -s   without the programs: what a program tells of a refusal comes from tests/words/told.awk alone, and ./trestlecat is not started
+set -u
+cd "$(dirname "$0")/.." || exit 2
+export LC_ALL=C
+root=$PWD
+programs=yes
+[ "${1-}" != -s ] || programs=
+room=$(mktemp -d)
+trap 'rm -rf "$room"' EXIT
+passed=0 failed=0 awks='' lacking=''
+for awk in awk mawk gawk original-awk busybox; do
+    if command -v "$awk" >/dev/null; then awks="$awks $awk"; else lacking="$lacking $awk"; fi
+done
+
+# with AWK WORD..: busybox is many programs
+with() {
+    case $1 in
+    busybox) shift && busybox awk "$@" ;;
+    *) "$@" ;;
+    esac
+}
+
+# same WHAT EXPECTED GOT
+same() {
+    if [ "$2" = "$3" ]; then
+        passed=$((passed + 1))
+    else
+        printf '%s:\n  it says     %s\n  and should  %s\n' "$1" "$3" "$2"
+        failed=$((failed + 1))
+    fi
+}
+
+# told FILE: the two lines of its refusal, or nothing
+told() {
+    od -An -v -tu1 "$1" | awk -f tests/words/told.awk
+}
+
+# The command in a sentence, tried: the sentence does not come again.
+mends() {
+    case $2 in
+    *'this mends it: '*) ;;
+    *) return ;;
+    esac
+    (cd "$room" && eval "${2##*this mends it: }")
+    told "$room/mended-scenario.csv" | awk -v file=scenario.csv -f tools/refused.awk >"$room/again"
+    if [ -s "$room/mended-scenario.csv" ] && [ "$2" != "$(cat "$room/again")" ]; then
+        passed=$((passed + 1))
+    else
+        echo "$1: its command does not mend the file"
+        failed=$((failed + 1))
+    fi
+    rm "$room/mended-scenario.csv"
+}
+
+# program WHAT COMMAND SENTENCE: what the command says of the file on standard error
+program() {
+    [ -n "$programs" ] || return
+    (cd "$room" && "$root/trestlecat" "$2" scenario.csv) >"$room/out" 2>"$room/err"
+    same "$1 ($2)" "$3" "$(cat "$room/err")"
+}
+
+# refuses WHAT SENTENCE: of the file scenario.csv, whose refusal is told
+refuses() {
+    for awk in $awks; do
+        same "$1 ($awk)" "$2" "$(with "$awk" -v file=scenario.csv -f tools/refused.awk <"$room/told")"
+    done
+}
+
+# scenario WHAT TEXT SENTENCE: the text is one for printf
+scenario() {
+    # shellcheck disable=SC2059 # the escapes in it are meant
+    printf "$2" >"$room/scenario.csv"
+    told "$room/scenario.csv" >"$room/told"
+    refuses "$1" "$3"
+    mends "$1" "$3"
+    program "$1" run "$3"
+}
+
+# waveform WHAT NUMBER SENTENCE: the file is there
+waveform() {
+    printf 'refused,%s,0\r\n' "$2" >"$room/told"
+    refuses "$1" "$3"
+    program "$1" unwave "$3"
+}
+
+# Four lines each: the cause, the file, the sentence, and an empty one.
+while IFS= read -r what && IFS= read -r text && IFS= read -r sentence; do
+    scenario "${what#\# }" "$text" "$sentence"
+    IFS= read -r _ || break
+done <tests/words/refused.txt
+
+ops=
+while [ "${#ops}" -lt $((65 * 12)) ]; do ops="${ops}op,0,1,0\\r\\n"; done
+scenario "65 op lines" "kind,a,b,c\\r\\nlock,3,5,2\\r\\npred,1,5,13\\r\\n$ops" \
+    "trestlecat: refused 5 at line 68, 'op,0,1,0': this is op line 65 of thread 0, and 64 are the most: take it out, or give it to another thread"
+echo "no waveform" >"$room/scenario.csv"
+waveform "no waveform" 42 \
+    "trestlecat: refused 42: this is not, byte for byte, a waveform as './trestlecat wave' writes them: make it again from its scenario"
+head -c 262145 /dev/zero >"$room/scenario.csv"
+waveform "a long waveform" 41 "trestlecat: refused 41: the waveform has more than 262,144 bytes or 16,383 rows: read one of a shorter scenario"
+
+# The names of files, in a command for a shell; and what is said where a program tells the first line only.
+printf 'refused,31,1\r\nread,0,0,0,0,0,3,97,10,97\r\n' >"$room/told"
+named() {
+    for awk in $awks; do
+        said=$(with "$awk" -v file="$1" -f tools/refused.awk <"$room/told")
+        same "the name '$1' ($awk)" "$2" "${said##*macOS write it: }"
+    done
+}
+named "a b.csv" "this mends it: tr -d '\\r' <'a b.csv' | awk -v ORS='\\r\\n' 1 >'mended-a b.csv'"
+named "../it's.csv" "this mends it: tr -d '\\r' <'../it'\\''s.csv' | awk -v ORS='\\r\\n' 1 >'mended-it'\\''s.csv'"
+named 'a$b;c' "this mends it: tr -d '\\r' <'a\$b;c' | awk -v ORS='\\r\\n' 1 >'mended-a\$b;c'"
+named 'a\nb' "this mends it: tr -d '\\r' <FILE | awk -v ORS='\\r\\n' 1 >mended-FILE"
+named - "send it through this: tr -d '\\r' | awk -v ORS='\\r\\n' 1"
+named "" "send it through this: tr -d '\\r' | awk -v ORS='\\r\\n' 1"
+printf 'refused,31,4\r\n' >"$room/told"
+refuses "31 alone" "trestlecat: refused 31 at line 4: the form of the line is broken: see docs/RULES.md, section 16"
+printf 'refused,32,4\r\n' >"$room/told"
+refuses "32 alone" "trestlecat: refused 32 at line 4: the line stands in the wrong place, or is missing: see docs/RULES.md, section 16"
+printf 'refused,4,3\r\n' >"$room/told"
+refuses "4 alone" "trestlecat: refused 4 at line 3: see number 4 in docs/RULES.md, section 10"
+
+# files SCRIPT ENDING FILE..: what the script prints for each scenario and its trace
+files() {
+    script=$1 ending=$2
+    shift 2
+    for file in "$@"; do
+        for awk in $awks; do
+            same "$file ($script, $awk)" "$(cat "${file%.csv}$ending")" \
+                "$(with "$awk" -f tools/rows.awk -f "tools/$script.awk" "$file" - <"${file%.csv}.out" || echo "status $?")"
+        done
+        [ -z "$programs" ] || same "$file (run)" "$(cat "${file%.csv}.out")" "$(./trestlecat run "$file" 2>/dev/null)"
+    done
+}
+files explain .words examples/*.csv tests/words/rows-*.csv
+files untidy .says tests/words/untidy-*.csv
+
+# A trace of another scenario is not explained.
+for awk in $awks; do
+    same "another trace ($awk)" "trestlecat: row 0 of the trace is not one of this scenario: give a scenario and its own trace" \
+        "$(with "$awk" -f tools/rows.awk -f tools/explain.awk examples/case-k.csv examples/case-f.out 2>&1 >/dev/null)"
+done
+echo "awks:$awks${lacking:+; not here:$lacking}"
+echo "$passed passed, $failed failed"
+[ "$failed" -eq 0 ]
