@@ -6,9 +6,10 @@ function head() { tell("row", "thread", "what it does", "flag", "count") }
 
 function row() { tell($1, thread, answer ? "refused " answer ": " why() : words(), exc ? "up" : "down", rc) }
 
+# 17 is drain's: it comes behind the whole scenario, and has no line.
 function last() {
-    if (refusal == "") return
-    print "the scenario is refused " (refused_line ? "at line " refused_line ", " : "") "with " refusal
+    if (refusal == 17) print "drain is refused, with 17: what is left is not tidy"
+    else if (refusal != "") print "the scenario is refused at line " refused_line ", with " refusal
 }
 
 # Whoever reads a trace through a pipe reads each row before the next one comes, hence the flush.

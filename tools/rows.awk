@@ -79,7 +79,7 @@ function scenario_line(n, line,    f) {
         b = f[4] ""
         return 1
     }
-    if (n < 4 || f[1] != "op" || f[2] !~ /^[0-9][0-9]?$/) return 0
+    if (n < 4 || f[1] != "op" || f[2] !~ /^[0-9][0-9]?$/ || f[3] !~ /^[1-7]$/) return 0
     op[f[2] + 0, ops[f[2] + 0]] = f[3] + 0
     value[f[2] + 0, ops[f[2] + 0]++] = f[4] ""
     return 1

@@ -7,8 +7,10 @@
 function head() {}
 function row() {}
 
+# Of a scenario that is refused itself, drain cannot be asked, and its op lines may be cut short.
 function last(    t, reason) {
-    reason = of_the_lock()
+    if (refusal != "" && refusal != 17) reason = "the scenario itself is refused, with " refusal " at line " refused_line ": mend that line first"
+    else reason = of_the_lock()
     for (t = 0; t < threads && reason == ""; t++) reason = of_the_rest(t)
     if (reason == "") reason = "no reason was found in this scenario and trace: tell those who keep Trestlecat"
     else found = 1
