@@ -141,6 +141,15 @@ files() {
 files explain .words examples/*.csv tests/words/rows-*.csv
 files untidy .says tests/words/untidy-*.csv
 
+# Drain's own refusal behind a trace: the scenario is not at fault.
+{ cat examples/case-k.out && printf 'refused,17,0\r\n'; } >"$room/drained"
+for awk in $awks; do
+    same "drain's refusal (explain, $awk)" "drain is refused, with 17: what is left is not tidy" \
+        "$(with "$awk" -f tools/rows.awk -f tools/explain.awk examples/case-k.csv "$room/drained" | tail -n 1)"
+    same "drain's refusal (untidy, $awk)" "$(cat tests/words/untidy-not-permitted.says)" \
+        "$(with "$awk" -f tools/rows.awk -f tools/untidy.awk examples/case-k.csv "$room/drained")"
+done
+
 # A trace of another scenario is not explained.
 for awk in $awks; do
     same "another trace ($awk)" "trestlecat: row 0 of the trace is not one of this scenario: give a scenario and its own trace" \
