@@ -37,7 +37,7 @@ for awk in awk gawk original-awk "busybox awk"; do
     command -v ${awk% awk} >/dev/null || continue
     $awk -f tools/rows.awk -f tools/explain.awk "$room/scenario" "$room/trace" >"$room/words" || fail "no words"
     $awk -f tools/rows.awk -f tools/untidy.awk "$room/scenario" "$room/trace" >"$room/untidy" || [ $? -eq 3 ] || fail "no line about tidy"
-    [ ! -s "$room/told" ] || $awk -v file=a.csv -f tools/refused.awk <"$room/told" >"$room/refused" || fail "no line about the refusal"
+    [ ! -s "$room/told" ] || file=a.csv $awk -f tools/refused.awk <"$room/told" >"$room/refused" || fail "no line about the refusal"
     cat "$room/words" "$room/untidy" >"$room/now"
     [ ! -s "$room/told" ] || cat "$room/refused" >>"$room/now"
     [ -f "$room/first" ] || mv "$room/now" "$room/first"

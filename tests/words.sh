@@ -48,7 +48,7 @@ mends() {
     *) return ;;
     esac
     (cd "$room" && eval "${2##*this mends it: }")
-    told "$room/mended-scenario.csv" | awk -v file=scenario.csv -f tools/refused.awk >"$room/again"
+    told "$room/mended-scenario.csv" | file=scenario.csv awk -f tools/refused.awk >"$room/again"
     if [ -s "$room/mended-scenario.csv" ] && [ "$2" != "$(cat "$room/again")" ]; then
         passed=$((passed + 1))
     else
@@ -68,7 +68,7 @@ program() {
 # refuses WHAT SENTENCE: of the file scenario.csv, whose refusal is told
 refuses() {
     for awk in $awks; do
-        same "$1 ($awk)" "$2" "$(with "$awk" -v file=scenario.csv -f tools/refused.awk <"$room/told")"
+        same "$1 ($awk)" "$2" "$(file=scenario.csv && export file && with "$awk" -f tools/refused.awk <"$room/told")"
     done
 }
 
@@ -109,14 +109,15 @@ waveform "a long waveform" 41 "trestlecat: refused 41: the waveform has more tha
 printf 'refused,31,1\r\nread,0,0,0,0,0,3,97,10,97\r\n' >"$room/told"
 named() {
     for awk in $awks; do
-        said=$(with "$awk" -v file="$1" -f tools/refused.awk <"$room/told")
+        said=$(file=$1 && export file && with "$awk" -f tools/refused.awk <"$room/told")
         same "the name '$1' ($awk)" "$2" "${said##*macOS write it: }"
     done
 }
 named "a b.csv" "this mends it: tr -d '\\r' <'a b.csv' | awk -v ORS='\\r\\n' 1 >'mended-a b.csv'"
 named "../it's.csv" "this mends it: tr -d '\\r' <'../it'\\''s.csv' | awk -v ORS='\\r\\n' 1 >'mended-it'\\''s.csv'"
 named 'a$b;c' "this mends it: tr -d '\\r' <'a\$b;c' | awk -v ORS='\\r\\n' 1 >'mended-a\$b;c'"
-named 'a\nb' "this mends it: tr -d '\\r' <FILE | awk -v ORS='\\r\\n' 1 >mended-FILE"
+named 'a\nb' "this mends it: tr -d '\\r' <'a\\nb' | awk -v ORS='\\r\\n' 1 >'mended-a\\nb'"
+named "$(printf 'a\nb')" "this mends it: tr -d '\\r' <FILE | awk -v ORS='\\r\\n' 1 >mended-FILE"
 named - "send it through this: tr -d '\\r' | awk -v ORS='\\r\\n' 1"
 named "" "send it through this: tr -d '\\r' | awk -v ORS='\\r\\n' 1"
 printf 'refused,31,4\r\n' >"$room/told"

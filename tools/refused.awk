@@ -1,16 +1,18 @@
 # Prints in one line of words what a refusal means and what to do about it, from the two lines that a program tells of it:
 #     refused,NUMBER,LINE
 #     read,STAGE,M,FIRST,THREADS,THREAD,LEN,B,B,B,...
-# usage: LC_ALL=C awk -v file=NAME -f tools/refused.awk
+# usage: file=NAME LC_ALL=C awk -f tools/refused.awk
 # The second line may be missing. STAGE is which line may come next (0 header, 1 lock, 2 pred, 3 op or run, 4 run); M, FIRST and THREADS are
 # those of the lock line, THREAD that of the op line before; LEN is how many bytes the refused line has, 81 for more than 80 and 0 also where
 # the file ended before a line came; the rest are its bytes, at most 80. NAME, for commands that mend the file, is - or empty for standard
-# input; awk reads a backslash in it as the start of an escape. The rules are in docs/RULES.md, sections 10 and 16.
+# input; it comes by the environment, since awk takes a backslash in an option for the start of an escape. The rules are in docs/RULES.md,
+# sections 10 and 16.
 #
 # Numbers of a file go up to 2^64 - 1, which awk's numbers do not hold: they are text here, compared by length and then as text.
 
 BEGIN {
     FS = ","
+    file = ENVIRON["file"]
     LARGEST = "18446744073709551615"
     HEADER = "kind,a,b,c"
     split("acquire_read borrow release_read acquire_write release_write drop into_inner", NAME, " ")
