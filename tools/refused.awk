@@ -112,7 +112,7 @@ function named(f) { return "the " NTH[f] " field" ((kind, f) in MEANS ? ", " MEA
 
 # A word for a shell.
 function quoted(name) {
-    if (name !~ /[^A-Za-z0-9_.,\/:@%+-]/) return name
+    if (name !~ "[^A-Za-z0-9_.,/:@%+-]") return name
     gsub(/'/, "'\\''", name)
     return "'" name "'"
 }
