@@ -13,13 +13,13 @@ use Rattle.machine.specs.Names.{untidy, mostThreads}
 use Rattle.machine.specs.Refusals.{gives, lowest}
 use Rattle.machine.specs.Lists.{Lent, scriptsOf, beside}
 use Rattle.machine.specs.Step.{Scripts}
-use Rattle.machine.specs.Tidy.{tidy}
+use Rattle.machine.specs.Tidy.{tidy, bound}
 use Rattle.machine.specs.Drain.{Went, after, until, sweep, enough, drain, drainRefusal, drainLent}
 use Rattle.machine.specs.declared.Lock.{Lock}
 use Rattle.machine.specs.declared.Rec.{Rec}
 use Rattle.machine.specs.declared.Refusal.{Refusal}
 use Rattle.machine.proofs.Refusals.{passed}
-use Rattle.lock.specs.ByValue.{runChecksOf, runRefusalOf, drainRefusalOf, drainOf}
+use Rattle.lock.specs.ByValue.{runChecksOf, runRefusalOf, drainRefusalOf, drainOf, boundOf}
 use Rattle.lock.specs.Run.{Ready}
 use Rattle.lock.specs.Drain.{stopOf, startOf, goingOf, drainedOf}
 use Rattle.lock.specs.declared.drain.DrainReturn.{DrainReturn}
@@ -135,6 +135,18 @@ module _ (s : Lent) (count : ℕ) (L : Lock) (recs : List Rec) (why : Refusal) (
       }
       in
       rw (zero, same) shape
+
+  -- ---- the bound
+  pub no-bound : (why .number ≡ 0 → ⊥) → 0 ≡ boundOf s count L recs
+  unfolding boundOf
+  no-bound some = rw (ne-eqb _ 0 (λ z. some (number-is ∙ z))) refl
+
+  pub bound-told : why .number ≡ 0 → bound (scriptsOf s) (take (length (s .lens)) recs) ≡ boundOf s count L recs
+  unfolding boundOf
+  bound-told none =
+      let zero = sym number-is ∙ none in
+      let same = none-refused s count L recs (none-of-run s count L (take count recs) zero) .0 in
+      rw (zero, same) refl
 
 -- ---- with a count of at most 16
 module _ (s : Lent) (count : ℕ) (L : Lock) (recs : List Rec) where

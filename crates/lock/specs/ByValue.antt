@@ -12,7 +12,7 @@ use Rattle.machine.specs.Lists.{Lent, scriptsOf, listChecks, beside}
 use Rattle.machine.specs.Sound.{sound}
 use Rattle.machine.specs.Setup.{fresh, setupRefusal}
 use Rattle.machine.specs.Run.{entries, run, RunLeft, madeRun, refusedRun}
-use Rattle.machine.specs.Tidy.{tidy}
+use Rattle.machine.specs.Tidy.{tidy, bound}
 use Rattle.machine.specs.Drain.{DrainLeft, drain}
 use Rattle.machine.specs.declared.Lock.{Lock}
 use Rattle.machine.specs.declared.Rec.{Rec}
@@ -57,3 +57,9 @@ drainOf s count L recs =
     cond (eqb k 0)
     (record { refusal = beside s 0; n = length (w .made); lock = w .lock; recs = w .recs })
     (record { refusal = beside s k; n = 0; lock = L; recs = l })
+
+-- the entries that drain takes at most: the plain cost and three a thread; 0 where it is refused
+unfoldable pub boundOf : Lent → ℕ → Lock → List Rec → ℕ
+boundOf s count L recs =
+    let l = take count recs in
+    cond (eqb (drainRefusalOf s count L l) 0) (bound (scriptsOf s) l) 0

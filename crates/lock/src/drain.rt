@@ -6,7 +6,7 @@ ghost use Rattle.machine.specs.Lists.{lists, scriptsOf, beside};
 ghost use Rattle.machine.specs.Tidy.{price, cost, bound};
 ghost use Rattle.machine.specs.Drain.{until, sweep, drain};
 ghost use Rattle.lock_tidy.specs.Rests.{wordsAt};
-ghost use Rattle.lock.specs.ByValue.{drainRefusalOf, drainOf};
+ghost use Rattle.lock.specs.ByValue.{drainRefusalOf, drainOf, boundOf};
 ghost use Rattle.lock.specs.Run.{Ready};
 ghost use Rattle.lock.specs.Drain.{stopsAt, stopOf, UnderWay, startOf, goingOf, drainedOf};
 use super::entered;
@@ -74,6 +74,24 @@ pub fn drain(
         lock,
         recs,
     }
+}
+
+// How many entries a drain takes at most: the plain cost and three a thread, and 0 where drain is refused.
+pub fn bound_of(
+    lens: &[u64],
+    ops: &[u64],
+    vals: &[u64],
+    lock: Lock,
+    recs: [Rec; 16],
+    count: u64,
+) -> u64
+    ensures { λ r. ⌜ r ≡ boundOf (lists (now (lens .entry)) (now (ops .entry)) (now (vals .entry))) count lock recs ⌝ }
+{
+    let why = refusal(lens, ops, vals, lock, recs, count);
+    if why.number != NONE {
+        return 0;
+    }
+    bound(lens, ops, recs)
 }
 
 // 5, 6, 7 and 10 are run's too, 17 is drain's own.

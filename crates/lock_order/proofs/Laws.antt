@@ -97,7 +97,8 @@ module _ (s : Lent) (count : ℕ) (L : Lock) (recs : List Rec) where
           record {
             many = rw (same, d) refl;
             n = rw (left, d) refl;
-            bounded = rw same (drained .bounded);
+            told = rw left refl;
+            bounded = rw (same, left) (drained .bounded);
             order = rw (same, d) (drained .order);
             one = λ fs M m o. rw same (order-is-one (scriptsOf s) L M (drain (scriptsOf s) L l .lock) l m (drain (scriptsOf s) L l .recs) fs es o (drained .order) .0);
             accepted = rw same (drained .accepted);
@@ -137,7 +138,7 @@ run-of-order s count L recs out budget trace wide none enough room =
 pub refused-order : RefusedOrder
 refused-order s count L recs out some =
     let left = refused-by s count L recs out (orderRefusalOf s count L (take count recs) (length out)) (λ z. some (number-is s count L recs out ∙ z)) refl in
-    rw left (refl, refl)
+    rw left (refl, refl, refl)
 
 pub order-numbers : OrderNumbers
 unfolding beside

@@ -11,14 +11,14 @@ use package.borrow.Author.Tests.{eqb-true, eqb-false, ne-eqb, lt-ltb, le-ltb}
 use Rattle.machine.specs.Refusals.{gives, lowest}
 use Rattle.machine.specs.Lists.{Lent, scriptsOf, beside}
 use Rattle.machine.specs.Sound.{Sound}
-use Rattle.machine.specs.Tidy.{Tidy}
+use Rattle.machine.specs.Tidy.{Tidy, bound}
 use Rattle.machine.specs.Drain.{drain, drainRefusal}
 use Rattle.machine.specs.declared.Lock.{Lock}
 use Rattle.machine.specs.declared.Rec.{Rec}
 use Rattle.machine.specs.declared.Refusal.{Refusal}
 use Rattle.machine.proofs.Refusals.{passed}
 use Rattle.machine.proofs.Exact.{drain-admits}
-use Rattle.lock.specs.ByValue.{runRefusalOf, drainChecksOf, drainRefusalOf, drainOf}
+use Rattle.lock.specs.ByValue.{runRefusalOf, drainChecksOf, drainRefusalOf, drainOf, boundOf}
 use Rattle.lock.specs.Drain.{drainedOf}
 use Rattle.lock.specs.declared.drain.DrainReturn.{DrainReturn}
 use Rattle.lock.proofs.Refusing.{earlier, later, number-beside, none-refused}
@@ -50,6 +50,10 @@ module _ (s : Lent) (count : ℕ) (L : Lock) (recs : List Rec) where
   pub counted : k ≡ 0 → drainOf s count L recs .n ≡ length es
   unfolding drainOf
   counted none = rw none refl
+
+  bounded : k ≡ 0 → boundOf s count L recs ≡ bound (scriptsOf s) l
+  unfolding boundOf
+  bounded none = rw none refl
 
   -- ---- a state that drain does not refuse
   module _ (wide : length recs ≡ 16) (none : k ≡ 0) where
@@ -86,12 +90,12 @@ module _ (s : Lent) (count : ℕ) (L : Lock) (recs : List Rec) where
 
   -- ---- the answer and the list
   module _ (out : List ℕ) where
-    pub refused-by : (j : ℕ) → (j ≡ 0 → ⊥) → orderRefusalOf s count L l (length out) ≡ j → orderOf s count L recs out ≡ record { refusal = beside s j; n = 0; out = out }
+    pub refused-by : (j : ℕ) → (j ≡ 0 → ⊥) → orderRefusalOf s count L l (length out) ≡ j → orderOf s count L recs out ≡ record { refusal = beside s j; n = 0; bound = 0; out = out }
     unfolding orderOf
     refused-by j some is = rw (is, ne-eqb j 0 some) refl
 
     pub made : orderRefusalOf s count L l (length out) ≡ 0
-        → orderOf s count L recs out ≡ record { refusal = beside s 0; n = length es; out = es ++ drop (length es) out }
+        → orderOf s count L recs out ≡ record { refusal = beside s 0; n = length es; bound = bound (scriptsOf s) l; out = es ++ drop (length es) out }
     unfolding orderOf
     made is = rw is refl
 
@@ -110,13 +114,13 @@ module _ (s : Lent) (count : ℕ) (L : Lock) (recs : List Rec) where
       n-is none = ap (λ (x : DrainReturn). x .n) is ∙ counted (none-is none)
 
       pub left-alone : (d .refusal .number ≡ 0 → ⊥)
-          → (_≡_ {A = Answer} (record { refusal = d .refusal; n = 0 }) (answerOf (orderOf s count L recs out))) × (out ≡ orderOf s count L recs out .out)
+          → (_≡_ {A = Answer} (record { refusal = d .refusal; n = 0; bound = 0 }) (answerOf (orderOf s count L recs out))) × (out ≡ orderOf s count L recs out .out)
       left-alone some =
           let not-none : k ≡ 0 → ⊥ = λ z. some (number-is ∙ z) in
           rw (refused-by k not-none (refused-first (length out) not-none), refusal-is) (refl, refl)
 
       pub too-small : d .refusal .number ≡ 0 → length out < d .n
-          → (_≡_ {A = Answer} (record { refusal = record { number = 41; thread = 0; place = 0 }; n = 0 }) (answerOf (orderOf s count L recs out)))
+          → (_≡_ {A = Answer} (record { refusal = record { number = 41; thread = 0; place = 0 }; n = 0; bound = 0 }) (answerOf (orderOf s count L recs out)))
           × (out ≡ orderOf s count L recs out .out)
       unfolding beside
       too-small none less =
@@ -124,11 +128,11 @@ module _ (s : Lent) (count : ℕ) (L : Lock) (recs : List Rec) where
           rw (refused-by noRoom (λ z. omega arith) (no-room (length out) (none-is none) less-es)) (refl, refl)
 
       pub written : (wide : length recs ≡ 16) (none : d .refusal .number ≡ 0) → d .n ≤ length out → (list : List ℕ)
-          → list ≡ sets out 0 (within (d .n) (scriptsOf s) L l .made)
-          → (_≡_ {A = Answer} (record { refusal = d .refusal; n = d .n }) (answerOf (orderOf s count L recs out))) × (list ≡ orderOf s count L recs out .out)
-      written wide none fits list e =
+          → list ≡ sets out 0 (within (d .n) (scriptsOf s) L l .made) → (b : ℕ) → b ≡ boundOf s count L recs
+          → (_≡_ {A = Answer} (record { refusal = d .refusal; n = d .n; bound = b }) (answerOf (orderOf s count L recs out))) × (list ≡ orderOf s count L recs out .out)
+      written wide none fits list e b of-bound =
           let fits-es : length es ≤ length out = omega (arith, n-is none) in
           let same = within-is wide (none-is none) (d .n) (n-is none) in
           let front : 0 + length es ≡ length es = omega arith in
           let stored : sets out 0 es ≡ es ++ drop (length es) out = sets-eq es out 0 (omega arith) ∙ ap (λ (m : ℕ). es ++ drop m out) front in
-          rw (made (room-enough (length out) (none-is none) fits-es), e, same, stored, n-is none, refusal-is, none-is none) (refl, refl)
+          rw (made (room-enough (length out) (none-is none) fits-es), e, same, stored, n-is none, refusal-is, none-is none, of-bound, bounded (none-is none)) (refl, refl)

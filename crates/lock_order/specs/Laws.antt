@@ -21,10 +21,11 @@ unfoldable pub entriesOf : Lent → ℕ → Lock → List Rec → List ℕ → L
 entriesOf s count L recs out = take (orderOf s count L recs out .n) (orderOf s count L recs out .out)
 
 pub record Ordered (s : Lent) (count : ℕ) (L : Lock) (recs : List Rec) (out : List ℕ) : Type 0 where
-  -- they are as many as drain makes, and at most the plain cost and three a thread
+  -- they are as many as drain makes, and at most the bound that is told: the plain cost of the state given, and three a thread
   pub many : length (entriesOf s count L recs out) ≡ drainOf s count L recs .n
   pub n : orderOf s count L recs out .n ≡ drainOf s count L recs .n
-  pub bounded : length (entriesOf s count L recs out) ≤ bound (scriptsOf s) (take count recs)
+  pub told : orderOf s count L recs out .bound ≡ bound (scriptsOf s) (take count recs)
+  pub bounded : length (entriesOf s count L recs out) ≤ orderOf s count L recs out .bound
   -- they are the drain order, from this state to what drain leaves, and nothing else is
   pub order : Order (scriptsOf s) L (take count recs) (entriesOf s count L recs out) (drainOf s count L recs .lock) (drainOf s count L recs .recs)
   pub one : (fs : List ℕ) (M : Lock) (m : List Rec) → Order (scriptsOf s) L (take count recs) fs M m → fs ≡ entriesOf s count L recs out
@@ -53,11 +54,11 @@ RunOfOrder =
     let d = drainOf s count L recs in
     (left .refusal .number ≡ 0) × (left .n ≡ d .n) × (left .done ≡ d .n) × (left .lock ≡ d .lock) × (left .recs ≡ d .recs)
 
--- a refusal writes nothing
+-- a refusal writes nothing, and tells no bound
 abbrev pub RefusedOrder : Type 0
 RefusedOrder =
     (s : Lent) (count : ℕ) (L : Lock) (recs : List Rec) (out : List ℕ) → orderOf s count L recs out .refusal .number ≢ 0
-    → (orderOf s count L recs out .n ≡ 0) × (orderOf s count L recs out .out ≡ out)
+    → (orderOf s count L recs out .n ≡ 0) × (orderOf s count L recs out .bound ≡ 0) × (orderOf s count L recs out .out ≡ out)
 
 -- drain's refusals are first, with what stands beside them; then 41, where drain makes more entries than have room
 abbrev pub OrderNumbers : Type 0

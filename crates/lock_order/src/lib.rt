@@ -20,10 +20,12 @@ pub const NO_ROOM: u64 = 41;
 // The words of a row of a run.
 const ROW: usize = 6;
 
-// The refusal, whose number is 0 for none; and how many entries were written.
+// The refusal, whose number is 0 for none; how many entries were written; how many they are at most by the rules: the plain cost of the
+// state given and three a thread.
 pub struct Answer {
     pub refusal: Refusal,
     pub n: u64,
+    pub bound: u64,
 }
 
 // Where a thread stops: at Idle or at WriteWait, at Idle, at its script's end.
@@ -57,7 +59,11 @@ pub fn drain_order(
     let end = lock::drain::drain(lens, ops, vals, lock, recs, count);
     let why = end.refusal;
     if why.number != NONE {
-        return Answer { refusal: why, n: 0 };
+        return Answer {
+            refusal: why,
+            n: 0,
+            bound: 0,
+        };
     }
     if (out.len() as u64) < end.n {
         return Answer {
@@ -67,12 +73,14 @@ pub fn drain_order(
                 place: 0,
             },
             n: 0,
+            bound: 0,
         };
     }
     write(lens, ops, vals, lock, recs, count, end.n, out);
     Answer {
         refusal: why,
         n: end.n,
+        bound: lock::drain::bound_of(lens, ops, vals, lock, recs, count),
     }
 }
 
