@@ -16,23 +16,23 @@
 // LIST is the number of its elements and then the elements.
 //
 //   what      what the line is there for (see below); a replay needs it for its messages only
-//   call      1 setup, 2 run, 3 drain
+//   call      1 setup, 2 run, 3 drain, 4 the entries of the drain order
 //   LOCK      before the call
 //   RECORDS   before the call
 //   LIST      the lengths of the scripts
 //   LIST      the operations
 //   LIST      the values
-//   LIST      the schedule (empty for setup and drain)
-//   budget    (0 for setup and drain)
-//   LIST      the trace list before the call (empty for setup and drain)
+//   LIST      the schedule (empty but for run)
+//   budget    (0 but for run)
+//   LIST      the trace list before the call, or the list that the entries are written into (empty for setup and drain)
 //   number    the refusal's, 0 for none
 //   thread    beside it
 //   place     beside it, a script place
-//   n         entries handled by run, entries used by drain, 0 for setup
-//   done      rows with answer 0, 0 for setup and drain
+//   n         entries handled by run, entries used by drain, entries written by 4, 0 for setup
+//   done      rows with answer 0 for run, the bound of drain for 4 (0 where it is refused), 0 for setup and drain
 //   LOCK      after the call, all 0 where a setup is refused
 //   RECORDS   after the call
-//   LIST      the trace list after the call
+//   LIST      that list after the call
 //
 // LOCK is thirteen numbers: exc (1 up), rc, full (1 full), kept (the value in the cell, or what an empty cell keeps), kind, a and b of the
 // predicate, M, dropped reads, dropped writes, moved (1 if there is a mover), mover, finished (1 finished). A setup is given kept as its
@@ -43,9 +43,9 @@
 // what: 1 setup's numbers in their order, 2 run's, 3 drain's, 4 n by each of the three lengths, 5 setups with good and bad input, 6
 // reached states, 7 sound states that no schedule need reach, 8 drain of case L, 9 neighbours where no clause fails, 10 states where more
 // than one clause fails, 11 sums that would wrap, 12 the most threads and the longest scripts (with the longest line, below 5,200 bytes),
-// 13 what stands beside 5 and 7, 100 + i only clause i of `SOUND` fails, 200 + i only clause i of `TIDY` fails, both counted from 0. The
-// last lines, 999, are wrong on purpose, one in each thing that is compared and one that lacks a field: a replay that found them equal
-// would show it.
+// 13 what stands beside 5 and 7, 14 the entries of the drain order, 100 + i only clause i of `SOUND` fails, 200 + i only clause i of `TIDY`
+// fails, both counted from 0. The last lines, 999, are wrong on purpose, one in each thing that is compared and one that lacks a field: a
+// replay that found them equal would show it.
 use std::cell::Cell;
 use std::env;
 use std::fs::File;
@@ -762,33 +762,33 @@ impl<'a> Machine<'a> {
         [number, code, answer, got, exc, self.lock.rc.load(SeqCst)]
     }
 
-    // Steps of one thread while something holds, none refused.
-    fn steps_while(&mut self, i: usize, goes_on: impl Fn(&Thread) -> bool) -> u64 {
-        let mut used = 0;
+    // Steps of one thread while something holds, none refused: so many entries of its number.
+    fn steps_while(&mut self, i: usize, goes_on: impl Fn(&Thread) -> bool) -> Vec<u64> {
+        let mut used = Vec::new();
         while goes_on(&self.threads[i]) {
             assert_eq!(self.entry(i as u64)[2], 0, "drain has no refused entry");
-            used += 1;
+            used.push(i as u64);
         }
         used
     }
 
-    // The drain order, and how many entries it takes.
-    fn drain(&mut self) -> u64 {
+    // The drain order, and the entries that it takes.
+    fn drain(&mut self) -> Vec<u64> {
         let not_idle = |t: &Thread| t.place() != Place::Idle;
         let waiting = |m: &Machine, i: usize| m.threads[i].place() == Place::WriteWait;
         let all = 0..self.threads.len();
-        let mut used = 0;
+        let mut used = Vec::new();
         for i in all.clone() {
             if !waiting(self, i) {
-                used += self.steps_while(i, not_idle);
+                used.extend(self.steps_while(i, not_idle));
             }
         }
         if let Some(i) = all.clone().find(|i| waiting(self, *i)) {
-            used += self.steps_while(i, not_idle);
+            used.extend(self.steps_while(i, not_idle));
         }
         for i in all {
             let length = self.scripts.lengths[i];
-            used += self.steps_while(i, |t| t.at < length);
+            used.extend(self.steps_while(i, |t| t.at < length));
         }
         used
     }
@@ -1217,6 +1217,7 @@ fn fresh_state(top: u64, pred: Pred, first: u64, threads: usize) -> State {
 const SETUP: u64 = 1;
 const RUN: u64 = 2;
 const DRAIN: u64 = 3;
+const ORDER: u64 = 4;
 
 // What a line that is wrong on purpose is there for.
 const WRONG: u64 = 999;
@@ -1258,7 +1259,7 @@ impl Direct {
         scripts.or_else(|| {
             if x.count() == 0 || x.count() > 16 || !unsound(s, x).is_empty() {
                 Some((10, 0, 0))
-            } else if self.call == DRAIN && !untidy(s, x).is_empty() {
+            } else if self.call != RUN && !untidy(s, x).is_empty() {
                 Some((17, 0, 0))
             } else {
                 None
@@ -1296,7 +1297,11 @@ impl Direct {
         let mut machine = Machine::at(&lock, from, &self.scripts);
         match self.call {
             RUN => self.run(&mut machine, &mut told),
-            DRAIN => self.drain(&mut machine, &mut told),
+            DRAIN => told.n = self.drain(&mut machine).len() as u64,
+            ORDER => {
+                self.order(&self.drain(&mut machine), &mut told);
+                return told;
+            }
             _ => {}
         }
         let after = machine.state();
@@ -1324,17 +1329,33 @@ impl Direct {
         }
     }
 
-    fn drain(&self, machine: &mut Machine, told: &mut Told) {
+    // The entries of the drain order.
+    fn drain(&self, machine: &mut Machine) -> Vec<u64> {
         let before = machine.state();
         assert_eq!(before, self.state, "threads are led to where they stand");
-        told.n = machine.drain();
+        let used = machine.drain();
         let after = machine.state();
-        let bound = plain_cost(&before, &self.scripts) + 3 * self.scripts.count();
-        assert!(told.n <= bound, "the bound of demand 3");
+        assert!(used.len() as u64 <= self.bound(), "the bound of demand 3");
         assert!(
             !after.exc && after.rc == 0 && after.full,
             "what drain leaves"
         );
+        used
+    }
+
+    // The plain cost of the state given, and three entries for each thread.
+    fn bound(&self) -> u64 {
+        plain_cost(&self.state, &self.scripts) + 3 * self.scripts.count()
+    }
+
+    // These entries, written down: 41 where they have no room. Lock and records stay as they were.
+    fn order(&self, entries: &[u64], told: &mut Told) {
+        if entries.len() > self.trace.len() {
+            told.refused = (41, 0, 0);
+            return;
+        }
+        told.trace[..entries.len()].copy_from_slice(entries);
+        (told.n, told.done) = (entries.len() as u64, self.bound());
     }
 }
 
@@ -2035,6 +2056,71 @@ impl<W: Write> List<W> {
         Ok(())
     }
 
+    // The entries of the drain order: drain's numbers, and the first that is not refused, without room and with some.
+    fn drain_orders(&mut self) -> io::Result<()> {
+        let numbers = [5, 6, 7, 10, 17];
+        for set in 0..1usize << numbers.len() {
+            let chosen: Vec<u64> = (0..numbers.len())
+                .filter(|i| set >> i & 1 == 1)
+                .map(|i| numbers[i])
+                .collect();
+            let (s, x) = broken(&chosen, set);
+            self.order_of(&s, &x, |_| 0)?;
+            self.order_of(&s, &x, |n| n + 4)?;
+        }
+        self.orders_of_states()?;
+        self.orders_of_cases()
+    }
+
+    // States that schedules reach and states from outside, with room for one entry fewer than there are, for all of them, and for more.
+    fn orders_of_states(&mut self) -> io::Result<()> {
+        for k in 0..90 {
+            let (reached, foreign) = (self.reached(k % 9 == 0), self.random.foreign());
+            for (s, x) in [reached, foreign] {
+                self.order_of(&s, &x, |n| (n + [0, 1, 6][k % 3]).saturating_sub(1))?;
+            }
+        }
+        Ok(())
+    }
+
+    // Case L, and the most threads with the longest scripts, which have too little room.
+    fn orders_of_cases(&mut self) -> io::Result<()> {
+        let (read, write) = (vec![(1, 0), (3, 0)], vec![(4, 0), (5, 13)]);
+        let x = Scripts::of(&[read.clone(), read, write.clone()]);
+        let mut s = fresh_state(2, PREDS[1].0, 5, 3);
+        (s.exc, s.rc) = (true, 1);
+        s.records[0].place = Place::ReadCheck;
+        s.records[2].place = Place::WriteWait;
+        for room in [13, 14, 20] {
+            let told = self.order_of(&s, &x, |_| room)?;
+            let expected = if room < 14 { (0, 0) } else { (14, 22) };
+            assert_eq!((told.n, told.done), expected, "the entries of case L");
+        }
+        let x = Scripts::of(&vec![write.repeat(32); 16]);
+        self.order_of(&fresh_state(1, PREDS[1].0, 5, 16), &x, |_| 5)?;
+        Ok(())
+    }
+
+    // The room is chosen by the number of entries, which is 0 where drain is refused.
+    fn order_of(
+        &mut self,
+        state: &State,
+        scripts: &Scripts,
+        room: impl Fn(usize) -> usize,
+    ) -> io::Result<Told> {
+        let mut d = Direct {
+            what: 14,
+            call: DRAIN,
+            state: state.clone(),
+            scripts: scripts.clone(),
+            schedule: Vec::new(),
+            budget: 0,
+            trace: Vec::new(),
+        };
+        (d.call, d.trace) = (ORDER, marks(room(d.answer().n as usize)));
+        self.put(&d)
+    }
+
     // Dropped numbers that make a sum wrap to what it should be.
     fn wraps(&mut self) -> io::Result<()> {
         let x = Scripts::of(&[vec![(1, 0), (3, 0)], vec![(4, 0), (5, 13)]]);
@@ -2147,7 +2233,7 @@ impl<W: Write> List<W> {
             eprintln!("access {code}: operation {op} from {from:?} to {to:?}: {n} entries");
         }
         let numbers = |counts: &[(u64, u64)]| counts.iter().map(|c| c.0).collect::<Vec<u64>>();
-        assert_eq!(numbers(&self.refused), [0, 1, 2, 3, 4, 5, 6, 7, 10, 17]);
+        assert_eq!(numbers(&self.refused), [0, 1, 2, 3, 4, 5, 6, 7, 10, 17, 41]);
         assert_eq!(numbers(&self.entries), [11, 12, 13, 14, 15, 16]);
         assert_eq!(self.ways.len(), 23, "the ways of an entry");
         eprintln!("{} lines", self.lines.iter().map(|c| c.1).sum::<u64>());
@@ -2170,7 +2256,22 @@ impl<W: Write> List<W> {
         (setup.call, setup.state.kept) = (DRAIN, 5);
         setup.scripts = Scripts::of(&[vec![(1, 0), (3, 0)], vec![(4, 0), (5, 13)]]);
         let (line, from) = setup.line();
-        self.wrong_in(&line, from + 3, line[from + 3] + 1)
+        self.wrong_in(&line, from + 3, line[from + 3] + 1)?;
+        self.wrong_orders(setup)
+    }
+
+    // The entries of that drain: the number, n, the bound, an entry, the word behind the last; and where they have no room, a word written.
+    fn wrong_orders(&mut self, mut d: Direct) -> io::Result<()> {
+        let n = d.answer().n as usize;
+        (d.call, d.trace) = (ORDER, marks(n + 1));
+        let (line, from) = d.line();
+        let list = from + 5 + 13 + 9 + 1;
+        for field in [from, from + 3, from + 4, list + n - 1, list + n] {
+            self.wrong_in(&line, field, line[field] ^ 1)?;
+        }
+        d.trace = marks(n - 1);
+        let (line, from) = d.line();
+        self.wrong_in(&line, from + 5 + 13 + 9 + 1, 0)
     }
 
     // From a run with a mover that waits, and another thread that is refused: each thing that is compared, and a field that lacks.
@@ -2265,6 +2366,7 @@ fn direct(out: impl Write) -> io::Result<()> {
     list.wraps()?;
     list.largest()?;
     list.beside()?;
+    list.drain_orders()?;
     list.wrong()?;
     list.touched();
     list.out.flush()

@@ -1,4 +1,4 @@
-// Replays the list on standard input against setup, run and drain, and prints how many of its calls agree.
+// Replays the list on standard input against setup, run, drain and the entries of the drain order, and prints how many of its calls agree.
 //
 // oracle/lock.rs makes the list and says what its fields are: each line is one call with all that is lent and all that comes back. The
 // last lines are wrong on purpose, and each of them has to be found. Nothing of the list is passed over: a line that cannot be read, and
@@ -99,7 +99,7 @@ fn verdict_on(text: &[u8]) -> Verdict {
 // Room for the numbers of a line. A line of the list is below 5,200 bytes, and a number takes two of them at least.
 const ROOM: usize = 2600;
 
-// Room for a trace list. The longest of the list has 68 words; a line with a longer one than the room counts as different.
+// Room for a trace list, or one of entries. The longest of the list has 68 words; a line with a longer one than the room counts as different.
 const TRACE: usize = 128;
 
 // What a call comes to. Where a setup is refused there is no lock, and the one here does not count.
@@ -163,6 +163,9 @@ fn load(trace: &mut [u64], before: &[u64]) {
 
 fn made(line: &[u64], p: Parts, given: Given, is_lent: bool, trace: &mut [u64]) -> Told {
     let call = given.call;
+    if call == ORDER {
+        return ordered(line, p, given, trace);
+    }
     if is_lent {
         return match call {
             SETUP => set_up_lent(line, p, given),
@@ -302,6 +305,23 @@ fn after_drain(left: DrainReturn) -> Told {
     told_by(true, refusal, left.n, 0, lock, recs)
 }
 
+// There is one form of it. The bound stands where a run has its rows with answer 0; lock and records are as they were.
+fn ordered(line: &[u64], p: Parts, given: Given, out: &mut [u64]) -> Told {
+    let lock = given.lock;
+    let recs = given.recs;
+    let left = lock_order::drain_order(
+        lens_of(line, p),
+        ops_of(line, p),
+        vals_of(line, p),
+        lock,
+        recs,
+        given.count,
+        out,
+    );
+    let refusal = left.refusal;
+    told_by(true, refusal, left.n, left.bound, lock, recs)
+}
+
 fn not_refused() -> Refusal {
     Refusal {
         number: 0,
@@ -365,6 +385,8 @@ const RUN: u64 = 2;
 
 const DRAIN: u64 = 3;
 
+const ORDER: u64 = 4;
+
 // The number of the last place, WritePut. Numbers above it name no place.
 const LAST_PLACE: u64 = 8;
 
@@ -416,7 +438,7 @@ fn call_on(line: &[u64], p: Parts, lock: Lock) -> Given {
 }
 
 fn is_call(call: u64) -> bool {
-    call == SETUP || call == RUN || call == DRAIN
+    call == SETUP || call == RUN || call == DRAIN || call == ORDER
 }
 
 // The flag, whether the cell is full, whether there is a mover and whether the lock is finished are 1 or 0; where there is no mover, its
