@@ -1,5 +1,6 @@
-// Case L over a lent list of records: set up, run in two pieces into one trace list, and drained. Prints the words of each row, the two
-// words of the trace list that no row takes, what each piece returned, and what the drain returned.
+// Case L over a lent list of records: set up, run in two pieces into one trace list, and drained; then the entries of that drain, and a
+// run of them. Prints the words of each row, the two words of the trace list that no row takes, what each piece returned, what the drain
+// returned, how many its entries are and may be, the list that they are in, and what their run returned.
 use atomic::Count;
 use cell::pred::Pred;
 use libc::STDOUT_FILENO;
@@ -65,6 +66,28 @@ fn finish(lens: &[u64], ops: &[u64], vals: &[u64], lock: Lock, recs: [Rec; 16]) 
     let left = lock_held::drain(lens, ops, vals, lock, recs, THREADS);
     let why = left.refusal;
     print_numbers(b"drain", why.number, left.n);
+    order(lens, ops, vals, lock, recs);
+}
+
+// The entries of that drain, from where it began, and a run of them.
+fn order(lens: &[u64], ops: &[u64], vals: &[u64], lock: Lock, recs: [Rec; 16]) {
+    let mut out = [99u64; 18];
+    let asked = lock_order::drain_order(lens, ops, vals, lock, recs, THREADS, &mut out);
+    print_numbers(b"order", asked.n, asked.bound);
+    print_words(&out);
+    let mut trace = [99u64; 84];
+    let ran = lock_held::run(
+        lens,
+        ops,
+        vals,
+        lock,
+        recs,
+        THREADS,
+        &out,
+        asked.n,
+        &mut trace,
+    );
+    print_numbers(b"run", ran.n, ran.done);
 }
 
 fn refused(why: Refusal) {
