@@ -3,6 +3,7 @@
 //
 //     mkdir -p target && rustc -O --edition 2021 oracle/lock.rs -o target/lock_oracle
 //     target/lock_oracle run < scenario.csv        the trace of a scenario, as the rules' runner prints it
+//     target/lock_oracle drain < scenario.csv      the same, then the rows of the drain order and how many they are and may be
 //     target/lock_oracle direct FILE               writes the list of direct calls, described below, to FILE
 //
 // The loops of acquire_read, acquire_write, release_read, release_write and into_inner stand here as the source has them, each as an
@@ -1145,20 +1146,49 @@ impl Scenario {
         }
     }
 
-    fn print_rows(&self, out: &mut impl Write) -> io::Result<()> {
-        let lock = RwLock::new(self.first, self.top);
-        let scripts = Scripts::of(&self.scripts);
+    // A machine of its own each time, and the entries of the run lines made by it.
+    fn led<'a>(
+        &self,
+        lock: &'a RwLock,
+        scripts: &'a Scripts,
+        mut each: impl FnMut(Row) -> io::Result<()>,
+    ) -> io::Result<Machine<'a>> {
         let state = fresh_state(self.top, self.pred, self.first, self.scripts.len());
-        let mut machine = Machine::at(&lock, &state, &scripts);
-        let entries = self
-            .runs
-            .iter()
-            .flat_map(|(thread, times)| (0..*times).map(move |_| *thread));
-        for (n, thread) in entries.enumerate() {
-            let [t, access, answer, got, exc, rc] = machine.entry(thread);
-            write!(out, "{n},{t},{access},{answer},{got},{exc},{rc}\r\n")?;
+        let mut machine = Machine::at(lock, &state, scripts);
+        for (thread, times) in &self.runs {
+            for _ in 0..*times {
+                each(machine.entry(*thread))?;
+            }
         }
-        Ok(())
+        Ok(machine)
+    }
+
+    // The rows, and where it drains and is not refused, those of the drain order behind them: its entries are found by a second machine.
+    fn print_rows(&self, drains: bool, out: &mut impl Write) -> io::Result<()> {
+        let scripts = Scripts::of(&self.scripts);
+        let lock = RwLock::new(self.first, self.top);
+        let mut n = 0u64;
+        let mut print = |row: Row, out: &mut dyn Write| {
+            let [t, access, answer, got, exc, rc] = row;
+            write!(out, "{n},{t},{access},{answer},{got},{exc},{rc}\r\n")?;
+            n += 1;
+            Ok(())
+        };
+        let mut machine = self.led(&lock, &scripts, |row| print(row, out))?;
+        if !drains {
+            return Ok(());
+        }
+        let state = machine.state();
+        if !untidy(&state, &scripts).is_empty() {
+            return write!(out, "refused,17,0\r\n");
+        }
+        let other = RwLock::new(self.first, self.top);
+        let entries = self.led(&other, &scripts, |_| Ok(()))?.drain();
+        for thread in &entries {
+            print(machine.entry(*thread), out)?;
+        }
+        let bound = plain_cost(&state, &scripts) + 3 * scripts.count();
+        write!(out, "drained,{},{bound}\r\n", entries.len())
     }
 }
 
@@ -1176,7 +1206,7 @@ fn lines(file: &[u8]) -> Vec<&[u8]> {
     lines
 }
 
-fn run_file(file: &[u8], out: &mut impl Write) -> io::Result<()> {
+fn run_file(file: &[u8], drains: bool, out: &mut impl Write) -> io::Result<()> {
     let lines = lines(file);
     let mut scenario = Scenario::new();
     let refused = (1u64..).zip(&lines).find_map(|(i, line)| {
@@ -1186,8 +1216,9 @@ fn run_file(file: &[u8], out: &mut impl Write) -> io::Result<()> {
     let cut_short = scenario.stage != Stage::Ops && scenario.stage != Stage::Runs;
     let refused = refused.or(cut_short.then_some((WRONG_LINE, lines.len() as u64 + 1)));
     write!(out, "{TRACE_HEADER}\r\n")?;
-    if !scenario.runs.is_empty() {
-        scenario.print_rows(out)?;
+    let drains = drains && refused.is_none();
+    if drains || !scenario.runs.is_empty() {
+        scenario.print_rows(drains, out)?;
     }
     if let Some((number, line)) = refused {
         write!(out, "refused,{number},{line}\r\n")?;
@@ -2376,14 +2407,15 @@ fn main() -> ExitCode {
     let args: Vec<String> = env::args().skip(1).collect();
     let words: Vec<&str> = args.iter().map(String::as_str).collect();
     let ended = match words[..] {
-        ["run"] => {
+        [word @ ("run" | "drain")] => {
             let mut file = Vec::new();
             let read = io::stdin().lock().read_to_end(&mut file);
-            read.and_then(|_| run_file(&file, &mut BufWriter::new(io::stdout().lock())))
+            let mut out = BufWriter::new(io::stdout().lock());
+            read.and_then(|_| run_file(&file, word == "drain", &mut out))
         }
         ["direct", file] => File::create(file).and_then(|f| direct(BufWriter::new(f))),
         _ => {
-            eprintln!("usage: lock_oracle run < SCENARIO, or lock_oracle direct FILE");
+            eprintln!("usage: lock_oracle run < SCENARIO, or lock_oracle drain < SCENARIO, or lock_oracle direct FILE");
             return ExitCode::from(2);
         }
     };

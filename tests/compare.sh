@@ -1,6 +1,7 @@
 #!/bin/sh
 # Compares a program with the second program, oracle/lock.rs, on every scenario file that oracle/scenarios.rs makes, byte for byte.
-# usage: tests/compare.sh [-f FAMILY] [-e EVERY] [-w WORKERS] [PROGRAM [WORD...]]
+# usage: tests/compare.sh [-d] [-f FAMILY] [-e EVERY] [-w WORKERS] [PROGRAM [WORD...]]
+#   -d                      compares what `drain` prints, by program_drain and program_run in a pipe as the command has them
 #   PROGRAM and its words   a path from the repository's root; reads a scenario on standard input and prints its trace; target/bin/program_run where none is given. A program
 #                           under target/bin is run as rt runs it, under the kit's emulator where the machine is not x86-64
 #   -f FAMILY               takes one family of files only, as `scenarios.rs` names them (all)
@@ -12,10 +13,12 @@
 set -eu
 cd "$(dirname "$0")/.."
 family=all
+drain=
 every=1
 workers=2
-while getopts f:e:w: option; do
+while getopts df:e:w: option; do
     case $option in
+    d) drain=yes ;;
     f) family=$OPTARG ;;
     e) every=$OPTARG ;;
     w) workers=$OPTARG ;;
@@ -40,11 +43,26 @@ rm -rf target/compare
 mkdir -p target/compare
 rustc -O --edition 2021 oracle/lock.rs -o target/compare/lock
 rustc -O --edition 2021 oracle/scenarios.rs -o target/compare/scenarios
+second=target/compare/lock
+if [ -n "$drain" ]; then
+    second=target/compare/second
+    # It is started with the word run.
+    printf '#!/bin/sh\nexec target/compare/lock drain\n' >"$second"
+    cat >target/compare/drain <<'END'
+#!/bin/sh
+# The last line is what program_drain says.
+. tools/kit.sh
+{ said=$({ run target/bin/program_drain 2>&3 4>&- | run target/bin/program_run 2>/dev/null >&4; } 3>&1); } 4>&1
+[ -z "$said" ] || printf '%s\n' "$said"
+END
+    chmod +x "$second" target/compare/drain
+    set -- target/compare/drain
+fi
 case $1 in
 target/bin/*)
-    kit=$(dirname "$(dirname "$(rt doc)")")/on/$(uname -m)/toolchain
+    . tools/kit.sh
     set -- "$kit/lib/ld-linux-x86-64.so.2" --library-path "$kit/lib" "$@"
     [ ! -x "$kit/bin/qemu-x86_64" ] || set -- "$kit/bin/qemu-x86_64" "$@"
     ;;
 esac
-target/compare/scenarios compare "$workers" "$every" "$family" target/compare target/compare/lock "$@"
+target/compare/scenarios compare "$workers" "$every" "$family" target/compare "$second" "$@"
