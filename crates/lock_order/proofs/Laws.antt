@@ -82,7 +82,7 @@ module _ (s : Lent) (count : ℕ) (L : Lock) (recs : List Rec) where
 
     entries-are : j ≡ 0 → entriesOf s count L recs out ≡ es
     unfolding entriesOf
-    entries-are none = rw (made s count L recs out none) (take-at es (drop (length es) out) (length es) refl)
+    entries-are none = rw (made s count L recs out none) (take-at es _ (length es) refl)
 
     module _ (wide : length recs ≡ 16) (none : j ≡ 0) where
       drained : Drained (scriptsOf s) L l

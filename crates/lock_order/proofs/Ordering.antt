@@ -23,7 +23,7 @@ use Rattle.lock.specs.Drain.{drainedOf}
 use Rattle.lock.specs.declared.drain.DrainReturn.{DrainReturn}
 use Rattle.lock.proofs.Refusing.{earlier, later, number-beside, none-refused}
 use Rattle.lock.proofs.Draining.{none-of-run}
-use Rattle.lock_order.specs.Order.{noRoom, orderRefusalOf, OrderLeft, orderOf, answerOf}
+use Rattle.lock_order.specs.Order.{noRoom, orderRefusalOf, orderMade, orderRefused, orderOf, answerOf}
 use Rattle.lock_order.specs.Write.{within}
 use Rattle.lock_order.specs.declared.Answer.{Answer}
 use Rattle.lock_order.proofs.Enough.{is-drain}
@@ -90,12 +90,11 @@ module _ (s : Lent) (count : ℕ) (L : Lock) (recs : List Rec) where
 
   -- ---- the answer and the list
   module _ (out : List ℕ) where
-    pub refused-by : (j : ℕ) → (j ≡ 0 → ⊥) → orderRefusalOf s count L l (length out) ≡ j → orderOf s count L recs out ≡ record { refusal = beside s j; n = 0; bound = 0; out = out }
+    pub refused-by : (j : ℕ) → (j ≡ 0 → ⊥) → orderRefusalOf s count L l (length out) ≡ j → orderOf s count L recs out ≡ orderRefused s j out
     unfolding orderOf
     refused-by j some is = rw (is, ne-eqb j 0 some) refl
 
-    pub made : orderRefusalOf s count L l (length out) ≡ 0
-        → orderOf s count L recs out ≡ record { refusal = beside s 0; n = length es; bound = bound (scriptsOf s) l; out = es ++ drop (length es) out }
+    pub made : orderRefusalOf s count L l (length out) ≡ 0 → orderOf s count L recs out ≡ orderMade s L l out
     unfolding orderOf
     made is = rw is refl
 
