@@ -273,7 +273,8 @@ fn op_refusal(r: Read, t: u64, code: u64, value: u64, n: u64) -> u64
 
 // ---- small words
 
-fn stage_no(stage: Stage) -> u64
+// The number of a stage: 0 for the header, then lock, pred, ops and runs.
+pub fn stage_no(stage: Stage) -> u64
     ensures { λ n. ⌜ n ≡ stageNo stage ⌝ }
 {
     match stage {

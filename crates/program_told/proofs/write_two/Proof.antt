@@ -1,0 +1,13 @@
+-- `write_two` meets its contract: two stores, one behind the other. Assumes nothing.
+use mathlib.Core.List.{[], _∷_}
+use borrow.Author.Needs.{needs}
+use Rattle.scenario_text.proofs.Stores.{both}
+use Rattle.program_told.proofs.Listed.{listed-append}
+use Rattle.program_told.proofs.write_two.Statement.{statement}
+use Rattle.program_told.proofs.write_two.Tie as tie
+
+returns : tie.Need-returns
+returns c = rw (listed-append (c .before .before .before .before .before .before .before .before .before .args .a ∷ []) (c .before .before .before .before .before .before .before .before .before .args .b ∷ [])) (both (c .before .before .before .before .before .before .write-one .ensures) (c .before .before .write-one2 .ensures))
+
+pub write-two-spec : {M : Type 1} → statement M
+write-two-spec = tie.close (tie.spec (λ c κs. search needs) (λ c κs. search needs) (λ c. search needs) returns)
