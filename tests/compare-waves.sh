@@ -42,10 +42,10 @@ $folder/vcd wave <"\$trace"
 tail -n 1 "\$trace" | grep '^refused,'
 rm "\$trace"
 END
-# Ours says it on standard error, after the waveform.
+# Ours says it on standard error, after the waveform. What it tells of the refused line besides has no second.
 cat >"$folder/ours" <<'END'
 #!/bin/sh
-exec "$@" 2>&1
+"$@" 2>&1 | sed '/^read,/d'
 END
 chmod +x "$folder/second" "$folder/ours"
 . tools/kit.sh

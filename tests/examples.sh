@@ -1,6 +1,6 @@
 #!/bin/sh
 # Runs every example through the command. The trace must be its .out file and the waveform its .vcd file, byte for byte; the signals that are read
-# in the waveform must be those of the trace; and the status 1 exactly if the trace ends refused, whose last line wave says on standard error.
+# in the waveform must be those of the trace; and the status 1 exactly if the trace ends refused, whose last line both say on standard error, first.
 set -u
 cd "$(dirname "$0")/.." || exit 2
 . tests/lib.sh
@@ -20,12 +20,12 @@ expect() {
     fi
 }
 
-# says LINE COMMAND SCENARIO: that is what it said on standard error, a line or nothing
+# says LINE COMMAND SCENARIO: that is the first line that it said on standard error, or nothing
 says() {
-    if [ "$1" = "$(cat "$room/err")" ]; then
+    if [ "$1" = "$(head -n 1 "$room/err")" ]; then
         passed=$((passed + 1))
     else
-        echo "$2 $3: on standard error it says '$(cat "$room/err")' and should say '$1'"
+        echo "$2 $3: on standard error it says '$(cat "$room/err")' and should begin with '$1'"
         failed=$((failed + 1))
     fi
 }
@@ -37,6 +37,7 @@ for scenario in examples/*.csv; do
     *) status=0 ;;
     esac
     expect "$status" "$name.out" run "$scenario"
+    says "$(tail -n 1 "$name.out" | grep '^refused,')" run "$scenario"
     expect "$status" "$name.vcd" wave "$scenario"
     says "$(tail -n 1 "$name.out" | grep '^refused,')" wave "$scenario"
     signals <"$name.out" >"$room/signals"

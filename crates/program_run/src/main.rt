@@ -1,4 +1,4 @@
-// A scenario on standard input, its trace on standard output.
+// A scenario on standard input, its trace on standard output. A refusal is said on standard error too, with what is known of its line, in numbers.
 ghost use Prim.Native.Nat.{_+_, _*_, _/_, _≤_};
 ghost use mathlib.Core.Path.{_≡_};
 ghost use mathlib.Core.Bool.{cond};
@@ -8,10 +8,13 @@ ghost use lib.Seq.{sets};
 ghost use Rattle.scenario_prints.specs.Prints.{moreText};
 use libc::STDERR_FILENO;
 use libc::STDOUT_FILENO;
+use lock_words::names::NONE;
 use machine::ROW_WORDS;
+use program_chunks::Input;
 use program_intake::Came;
 use program_intake::Intake;
 use scenario_read::Stop;
+use scenario_stages::Read;
 
 // What is handed from turn to turn, besides the lists.
 struct Run {
@@ -116,7 +119,8 @@ fn turn(
     let stop = came.stop;
     let end = put_more(run.row, rows, n, stop, out, room.at);
     let row = std::num::wrapping_add_u64(run.row, n as u64);
-    after(row, came, room.lost, out, end)
+    let len = refused_length(intake, input, came, chunk);
+    after(row, came, room.lost, len, line, out, end)
 }
 
 // What waits is written where n rows and a refusal have no room behind it.
@@ -128,8 +132,10 @@ fn make_room(n: usize, out: &[u8], at: usize) -> Room
     if scenario_prints::has_room(out.len(), at, n) {
         return Room { at, lost: false };
     }
-    let done = io::write_all(STDOUT_FILENO, program_chunks::front(out, at));
-    Room { at: 0, lost: !done }
+    Room {
+        at: 0,
+        lost: !write(program_chunks::front(out, at)),
+    }
 }
 
 // No row is lost, since there is room.
@@ -142,18 +148,49 @@ fn put_more(row: u64, rows: &[u64], n: usize, stop: Stop, out: &mut [u8], at: us
     scenario_prints::put_more(row, rows, n, stop, out, at)
 }
 
+// How long the refused line is, 0 where there is none. It was read in this turn: nothing is read behind it, and the rows before it, less than a
+// piece, have the room that was asked before it was read.
+fn refused_length(before: Intake, input: Input, came: Came, chunk: &[u8]) -> usize {
+    let left = came.intake;
+    let state = left.state;
+    let read = state.read;
+    if read.refused == NONE {
+        return 0;
+    }
+    let taken = left.input;
+    let began = before.state;
+    let held = began.held;
+    program_told::last_length(
+        held,
+        program_chunks::front(chunk, taken.from),
+        input.from,
+        state.closed,
+    )
+}
+
 // Before more is read, which may take long, and at the end, what waits is written.
-fn after(row: u64, came: Came, lost: bool, out: &[u8], at: usize) -> Run {
+fn after(
+    row: u64,
+    came: Came,
+    lost: bool,
+    len: usize,
+    line: &[u8; 80],
+    out: &mut [u8],
+    at: usize,
+) -> Run {
     let intake = came.intake;
     let input = intake.input;
+    let state = intake.state;
+    let read = state.read;
     let stop = came.stop;
     let ends = input.failed || scenario_read::ends(stop);
     let wait = scenario_read::is_full(stop) && !ends;
-    let done = !lost && (wait || io::write_all(STDOUT_FILENO, program_chunks::front(out, at)));
+    let done = !lost && (wait || write(program_chunks::front(out, at)));
+    tell(done, stop, read, len, line, out);
     if input.failed {
         io::write_all(
             STDERR_FILENO,
-            b"runner: the input could not be read to its end, so the trace is not whole\n",
+            b"trestlecat: the input could not be read to its end, so the trace is not whole: give a file or a pipe that can be read\n",
         );
     }
     Run {
@@ -162,4 +199,28 @@ fn after(row: u64, came: Came, lost: bool, out: &[u8], at: usize) -> Run {
         at: if wait { at } else { 0 },
         ended: ends || !done,
     }
+}
+
+fn write(text: &[u8]) -> bool {
+    let done = io::write_all(STDOUT_FILENO, text);
+    if !done {
+        io::write_all(
+            STDERR_FILENO,
+            b"trestlecat: the trace could not be written to its end, so it must not be used: make room, or let the reader take all of it\n",
+        );
+    }
+    done
+}
+
+// The refusal, where there is one and all is written, and what is known of its line.
+fn tell(whole: bool, stop: Stop, read: Read, len: usize, line: &[u8], out: &mut [u8]) {
+    if !whole {
+        return;
+    }
+    let n = scenario_prints::put_stop(stop, out, 0);
+    if n == 0 {
+        return;
+    }
+    let m = program_told::put_read(out, n, read, len, line);
+    io::write_all(STDERR_FILENO, program_chunks::front(out, m));
 }

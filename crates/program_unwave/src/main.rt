@@ -46,7 +46,7 @@ fn read_and_print(file: &mut [u8], chunk: &mut [u8], signals: &mut [u64], out: &
     if got.failed {
         io::write_all(
             STDERR_FILENO,
-            b"unwave: the input could not be read to its end, so nothing is printed\n",
+            b"trestlecat: the input could not be read to its end, so nothing is printed: give a file or a pipe that can be read\n",
         );
         return;
     }
@@ -151,7 +151,7 @@ fn write(text: &[u8]) -> bool {
     if !done {
         io::write_all(
             STDERR_FILENO,
-            b"unwave: the signals could not be written to their end\n",
+            b"trestlecat: the signals could not be written to their end, so they must not be used: make room, or let the reader take all of them\n",
         );
     }
     done

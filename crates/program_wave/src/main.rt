@@ -1,5 +1,5 @@
 // A scenario on standard input, the waveform of its trace on standard output. The refusal of a scenario is said on standard error, behind the
-// waveform of the rows before it.
+// waveform of the rows before it, with what is known of its line, in numbers.
 ghost use Prim.Native.Nat.{_+_, _*_, _/_, _≤_};
 ghost use mathlib.Core.Path.{_≡_};
 ghost use mathlib.Core.Bool.{cond};
@@ -10,10 +10,13 @@ ghost use Rattle.vcd.specs.Trace.{rowSignals};
 ghost use Rattle.vcd_rows.specs.Waves.{leftBy, textBy};
 use libc::STDERR_FILENO;
 use libc::STDOUT_FILENO;
+use lock_words::names::NONE;
 use machine::ROW_WORDS;
+use program_chunks::Input;
 use program_intake::Came;
 use program_intake::Intake;
 use scenario_read::Stop;
+use scenario_stages::Read;
 use vcd::Signals;
 use vcd::Wave;
 use vcd_rows::Left;
@@ -130,7 +133,8 @@ fn turn(
     let room = make_room(n, out, run.at);
     let wave = run.wave;
     let left = put_rows(wave, rows, n, out, room.at);
-    after(came, room.lost, left, out)
+    let len = refused_length(intake, input, came, chunk);
+    after(came, room.lost, left, len, line, out)
 }
 
 // What waits is written where the changes of n rows have no room behind it.
@@ -158,20 +162,43 @@ fn put_rows(wave: Wave, rows: &[u64], n: usize, out: &mut [u8], at: usize) -> Le
     vcd_rows::put_rows(wave, rows, n, out, at)
 }
 
+// How long the refused line is, 0 where there is none. It was read in this turn: nothing is read behind it, and the rows before it, less than a
+// piece, have the room that was asked before it was read.
+fn refused_length(before: Intake, input: Input, came: Came, chunk: &[u8]) -> usize {
+    let left = came.intake;
+    let state = left.state;
+    let read = state.read;
+    if read.refused == NONE {
+        return 0;
+    }
+    let taken = left.input;
+    let began = before.state;
+    let held = began.held;
+    program_told::last_length(
+        held,
+        program_chunks::front(chunk, taken.from),
+        input.from,
+        state.closed,
+    )
+}
+
 // Before more is read, which may take long, and at the end, what waits is written.
-fn after(came: Came, lost: bool, left: Left, out: &mut [u8]) -> Run {
+fn after(came: Came, lost: bool, left: Left, len: usize, line: &[u8; 80], out: &mut [u8]) -> Run {
     let intake = came.intake;
     let input = intake.input;
+    let state = intake.state;
+    let read = state.read;
     let wave = left.wave;
     let stop = came.stop;
     let ends = input.failed || scenario_read::ends(stop);
     let wait = scenario_read::is_full(stop) && !ends;
     let done = !lost && (wait || write(program_chunks::front(out, left.at)));
-    finish(done && scenario_read::ends(stop), wave, stop, out);
+    let whole = close(done && scenario_read::ends(stop), wave, out);
+    tell(whole, stop, read, len, line, out);
     if input.failed {
         io::write_all(
             STDERR_FILENO,
-            b"wave: the input could not be read to its end, so the waveform is not whole\n",
+            b"trestlecat: the input could not be read to its end, so the waveform is not whole: give a file or a pipe that can be read\n",
         );
     }
     Run {
@@ -187,19 +214,30 @@ fn write(text: &[u8]) -> bool {
     if !done {
         io::write_all(
             STDERR_FILENO,
-            b"wave: the waveform could not be written to its end\n",
+            b"trestlecat: the waveform could not be written to its end, so it must not be used: make room, or let the reader take all of it\n",
         );
     }
     done
 }
 
-// The close, and the refusal, where the waveform is whole.
-fn finish(whole: bool, wave: Wave, stop: Stop, out: &mut [u8]) {
+// The close, where all before it is written and nothing comes any more. Whether the waveform is whole.
+fn close(ready: bool, wave: Wave, out: &mut [u8]) -> bool {
+    if !ready {
+        return false;
+    }
+    let n = vcd_text::put_close(out, 0, wave);
+    write(program_chunks::front(out, n))
+}
+
+// The refusal, where there is one and all is written, and what is known of its line.
+fn tell(whole: bool, stop: Stop, read: Read, len: usize, line: &[u8], out: &mut [u8]) {
     if !whole {
         return;
     }
-    let n = vcd_text::put_close(out, 0, wave);
-    write(program_chunks::front(out, n));
-    let m = scenario_prints::put_stop(stop, out, 0);
+    let n = scenario_prints::put_stop(stop, out, 0);
+    if n == 0 {
+        return;
+    }
+    let m = program_told::put_read(out, n, read, len, line);
     io::write_all(STDERR_FILENO, program_chunks::front(out, m));
 }

@@ -411,7 +411,7 @@ fn run_waiting(
 }
 
 // The first n places, as far as there are places.
-fn upto(list: &[u64], n: u64) -> &[u64]
+pub fn upto(list: &[u64], n: u64) -> &[u64]
     ensures { λ r. ⌜ now r ≡ take n (now (list .entry)) ⌝ }
 {
     let m = lock_words::smaller(n, list.len() as u64) as usize;
