@@ -99,7 +99,11 @@ fn read_signals(file: &[u8], too_large: bool, signals: &mut [u64]) -> Answer {
 fn print(answer: Answer, signals: &[u64], out: &mut [u8]) {
     if answer.refused != 0 {
         let n = scenario_text::put_refusal(out, 0, answer.refused, 0);
-        write(program_chunks::front(out, n));
+        let text = program_chunks::front(out, n);
+        // whoever started it makes words of this, as of what the other programs tell
+        if write(text) {
+            io::write_all(STDERR_FILENO, text);
+        }
         return;
     }
     print_lines(signals, answer.n, out);
