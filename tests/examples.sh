@@ -8,6 +8,7 @@ cd "$(dirname "$0")/.." || exit 2
 room=$(mktemp -d)
 trap 'rm -rf "$room"' EXIT
 passed=0 failed=0
+built
 
 # expect STATUS FILE COMMAND SCENARIO: what the command prints is the file
 expect() {

@@ -1,5 +1,11 @@
 # What tests share.
 
+# built: every program of the command is, so that it says nothing of that later
+built() {
+    for command in run drain wave; do ./trestlecat "$command" examples/case-a.csv; done >/dev/null 2>&1
+    ./trestlecat unwave examples/case-a.vcd >/dev/null 2>&1
+}
+
 # signals: what unwave prints for the waveform of the trace on standard input; both signals are 0 before the first row
 signals() {
     LC_ALL=C awk -F, '

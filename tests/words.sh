@@ -14,6 +14,8 @@ programs=yes
 room=$(mktemp -d)
 trap 'rm -rf "$room"' EXIT
 passed=0 failed=0 awks='' lacking=''
+. tests/lib.sh
+[ -z "$programs" ] || built
 for awk in awk mawk gawk original-awk busybox; do
     if command -v "$awk" >/dev/null; then awks="$awks $awk"; else lacking="$lacking $awk"; fi
 done
