@@ -248,7 +248,7 @@ fn standing_of(intake: Intake) -> Standing {
 
 // A run line for each of the first n entries, on lines of their own.
 fn write_lines(within: bool, order: &[u64], n: u64, out: &mut [u8]) -> bool {
-    let mut at = put_break(within, out);
+    let mut at = put_break(within, n, out);
     let mut i = 0;
     while i < order.len() {
         if n <= i as u64 {
@@ -266,8 +266,8 @@ fn write_lines(within: bool, order: &[u64], n: u64, out: &mut [u8]) -> bool {
     write(program_chunks::front(out, at))
 }
 
-fn put_break(within: bool, out: &mut [u8]) -> usize {
-    if within {
+fn put_break(within: bool, n: u64, out: &mut [u8]) -> usize {
+    if within && 0 < n {
         return scenario_text::put_bytes(out, 0, b"\r\n");
     }
     0

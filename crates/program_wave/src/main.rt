@@ -162,8 +162,8 @@ fn put_rows(wave: Wave, rows: &[u64], n: usize, out: &mut [u8], at: usize) -> Le
     vcd_rows::put_rows(wave, rows, n, out, at)
 }
 
-// How long the refused line is, 0 where there is none. It was read in this turn: nothing is read behind it, and the rows before it, less than a
-// piece, have the room that was asked before it was read.
+// How long the refused line is, 0 where there is none, and where the end came before it. It was read in this turn: nothing is read behind it, and
+// the rows before it, less than a piece, have the room that was asked before it was read.
 fn refused_length(before: Intake, input: Input, came: Came, chunk: &[u8]) -> usize {
     let left = came.intake;
     let state = left.state;
@@ -171,8 +171,13 @@ fn refused_length(before: Intake, input: Input, came: Came, chunk: &[u8]) -> usi
     if read.refused == NONE {
         return 0;
     }
-    let taken = left.input;
     let began = before.state;
+    let earlier = began.read;
+    // The last chunk has no bytes, so where two lines are counted in its turn, the line that was left is taken, and one is missing behind it.
+    if state.closed && read.line != std::num::wrapping_add_u64(earlier.line, 1) {
+        return 0;
+    }
+    let taken = left.input;
     let held = began.held;
     program_told::last_length(
         held,
