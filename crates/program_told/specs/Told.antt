@@ -1,7 +1,8 @@
 -- What is told of a refused line: how far the scenario was read, how long the line is, and its bytes.
 use Prim.Native.Nat.{ℕ, min}
-use mathlib.Core.Bool.{Bool, cond}
+use mathlib.Core.Bool.{Bool, false, cond, not}
 use mathlib.Core.List.{List, [], _∷_, _++_}
+use lib.Dec.{eqb}
 use lib.ListN.{take}
 use Rattle.scenario_lines.specs.Ascii.{bytes}
 use Rattle.scenario_lines.specs.Bytes.{longest}
@@ -11,6 +12,7 @@ use Rattle.scenario_lines.specs.declared.bytes.Held.{Held}
 use Rattle.scenario_text.specs.Number.{text}
 use Rattle.scenario_text.specs.Lines.{break}
 use Rattle.scenario.specs.Refused.{stageNo}
+use Rattle.scenario_stages.specs.Kept.{countedOn}
 use Rattle.scenario_stages.specs.declared.Read.{Read}
 
 -- ---- how long it is
@@ -27,6 +29,16 @@ through h (b ∷ bs) = through (heldAfter (anew h) b) bs
 -- stands for more than 80, and 0 for no line too
 abbrev pub lastLength : Held → List ℕ → Bool → ℕ
 lastLength h bs closed = cond closed (heldEnd (anew (through h bs)) .len) (through h bs .len)
+
+-- the file has ended before the refused line: at its end more is counted than one line, the one that was left and the one that is missing
+abbrev pub missing : ℕ → ℕ → Bool → Bool
+missing before after closed = cond closed (not (eqb after (countedOn before))) false
+
+-- how many bytes the refused line has that was read in this turn, where `earlier` and h are what was read and held before it; 0 where none is
+-- refused, and where it is missing
+abbrev pub refusedLength : Read → Held → Read → Bool → List ℕ → ℕ
+refusedLength earlier h r closed bs =
+    cond (eqb (r .refused) 0) 0 (cond (missing (earlier .line) (r .line) closed) 0 (lastLength h bs closed))
 
 -- ---- the text
 -- numbers, each with a comma before it

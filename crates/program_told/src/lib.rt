@@ -6,7 +6,8 @@ ghost use lib.ListN.{length, drop};
 ghost use Rattle.scenario_lines.specs.Ascii.{bytes as ascii};
 ghost use Rattle.scenario_text.specs.Put.{Put, placeAfter, stored};
 ghost use Rattle.scenario_text.specs.Lines.{break};
-ghost use Rattle.program_told.specs.Told.{anew, through, lastLength, listed, readNumbers, refusedBytes, readText};
+ghost use Rattle.program_told.specs.Told.{anew, through, lastLength, missing, refusedLength, listed, readNumbers, refusedBytes, readText};
+use lock_words::names::NONE;
 use scenario_lines::LONGEST;
 use scenario_lines::bytes;
 use scenario_lines::bytes::Held;
@@ -15,9 +16,40 @@ use scenario_stages::Read;
 // The most bytes of the text: a word, six numbers, those of a whole line, a comma before each, and the break.
 const MOST: usize = 1812;
 
+// How many bytes the line has that was refused in this turn, 0 where there is none and where the file ended before it: `earlier` and `held` are what
+// was read and held before the bytes of the chunk from `from` on.
+pub fn refused_length(
+    earlier: Read,
+    held: Held,
+    read: Read,
+    closed: bool,
+    chunk: &[u8],
+    from: usize,
+) -> usize
+    ensures { λ r. ⌜ r ≡ refusedLength earlier held read closed (drop from (now (chunk .entry))) ⌝ }
+{
+    if read.refused == NONE {
+        return 0;
+    }
+    if is_missing(earlier.line, read.line, closed) {
+        return 0;
+    }
+    last_length(held, chunk, from, closed)
+}
+
+// Where two lines are counted at the end of the input, the one that was left is taken, and one is missing behind it.
+fn is_missing(before: u64, after: u64, closed: bool) -> bool
+    ensures { λ r. ⌜ r ≡ missing before after closed ⌝ }
+{
+    if closed {
+        return after != std::num::wrapping_add_u64(before, 1);
+    }
+    false
+}
+
 // How many bytes the line has that was read last: `held` is what was held of a line before the bytes of the chunk from `from` on, `closed` says
 // that the end of the input came after them. 81 stands for a line that is too long.
-pub fn last_length(held: Held, chunk: &[u8], from: usize, closed: bool) -> usize
+fn last_length(held: Held, chunk: &[u8], from: usize, closed: bool) -> usize
     ensures { λ r. ⌜ r ≡ lastLength held (drop from (now (chunk .entry))) closed ⌝ }
 {
     // The bytes are counted, not kept.

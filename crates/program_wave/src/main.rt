@@ -10,7 +10,6 @@ ghost use Rattle.vcd.specs.Trace.{rowSignals};
 ghost use Rattle.vcd_rows.specs.Waves.{leftBy, textBy};
 use libc::STDERR_FILENO;
 use libc::STDOUT_FILENO;
-use lock_words::names::NONE;
 use machine::ROW_WORDS;
 use program_chunks::Input;
 use program_intake::Came;
@@ -162,28 +161,23 @@ fn put_rows(wave: Wave, rows: &[u64], n: usize, out: &mut [u8], at: usize) -> Le
     vcd_rows::put_rows(wave, rows, n, out, at)
 }
 
-// How long the refused line is, 0 where there is none, and where the end came before it. It was read in this turn: nothing is read behind it, and
-// the rows before it, less than a piece, have the room that was asked before it was read.
+// How long the refused line is, 0 where there is none. It was read in this turn: nothing is read behind it, and the rows before it, less than a
+// piece, have the room that was asked before it was read.
 fn refused_length(before: Intake, input: Input, came: Came, chunk: &[u8]) -> usize {
-    let left = came.intake;
-    let state = left.state;
-    let read = state.read;
-    if read.refused == NONE {
-        return 0;
-    }
     let began = before.state;
     let earlier = began.read;
-    // The last chunk has no bytes, so where two lines are counted in its turn, the line that was left is taken, and one is missing behind it.
-    if state.closed && read.line != std::num::wrapping_add_u64(earlier.line, 1) {
-        return 0;
-    }
-    let taken = left.input;
     let held = began.held;
-    program_told::last_length(
+    let left = came.intake;
+    let taken = left.input;
+    let state = left.state;
+    let read = state.read;
+    program_told::refused_length(
+        earlier,
         held,
+        read,
+        state.closed,
         program_chunks::front(chunk, taken.from),
         input.from,
-        state.closed,
     )
 }
 
