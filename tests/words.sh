@@ -16,14 +16,15 @@ trap 'rm -rf "$room"' EXIT
 passed=0 failed=0 awks='' lacking=''
 . tests/lib.sh
 [ -z "$programs" ] || built
-for awk in awk mawk gawk original-awk busybox; do
-    if command -v "$awk" >/dev/null; then awks="$awks $awk"; else lacking="$lacking $awk"; fi
+for awk in awk mawk gawk gawk-posix original-awk busybox; do
+    if command -v "${awk%-posix}" >/dev/null; then awks="$awks $awk"; else lacking="$lacking $awk"; fi
 done
 
-# with AWK WORD..: busybox is many programs
+# with AWK WORD..: busybox is many programs, and gawk is two, one as strict as POSIX
 with() {
     case $1 in
     busybox) shift && busybox awk "$@" ;;
+    gawk-posix) shift && gawk --posix "$@" ;;
     *) "$@" ;;
     esac
 }

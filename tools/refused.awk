@@ -31,8 +31,8 @@ END {
     print "trestlecat: refused " number where() ": " what()
 }
 
-function kind_of_line(kind, form, second, third, fourth) {
-    FORM[kind] = kind "," form
+function kind_of_line(kind, rest, second, third, fourth) {
+    FORM[kind] = kind "," rest
     MEANS[kind, 2] = second
     MEANS[kind, 3] = third
     MEANS[kind, 4] = fourth

@@ -41,8 +41,8 @@ END {
     last()
 }
 
-function stop(why) {
-    print "trestlecat: " why >"/dev/stderr"
+function stop(reason) {
+    print "trestlecat: " reason >"/dev/stderr"
     stopped = 1
     exit 2
 }

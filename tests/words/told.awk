@@ -50,7 +50,7 @@ function tell(number) {
 function check(    f) {
     if (len > 80 || bad || split(text, f, ",") != 4) return 31
     if (stage == 0) return text == "kind,a,b,c" ? next_stage(1) : 32
-    if (!number(f[2]) || !number(f[3]) || !number(f[4])) return 31
+    if (!good(f[2]) || !good(f[3]) || !good(f[4])) return 31
     if (f[1] == "run" && (above(f[2], "255") || f[3] == "0" || above(f[3], "65535") || f[4] != "0")) return 31
     if (stage == 1 && f[1] == "lock") {
         top = f[2]
@@ -64,7 +64,7 @@ function check(    f) {
 }
 
 function next_stage(s) { stage = s; return 0 }
-function number(x) { return x ~ /^(0|[1-9][0-9]*)$/ && !above(x, "18446744073709551615") }
+function good(x) { return x ~ /^(0|[1-9][0-9]*)$/ && !above(x, "18446744073709551615") }
 function above(x, y) { return length(x) > length(y) || length(x) == length(y) && x "" > y "" }
 
 function pred(k, a, b) {
