@@ -14,7 +14,7 @@ function last() {
 
 # Whoever reads a trace through a pipe reads each row before the next one comes, hence the flush.
 function tell(n, who, what, flag, count) {
-    printf "%5s  %6s  %-70s  %4s  %5s\n", n, who, what, flag, count
+    printf "%7s  %6s  %-70s  %-4s  %5s\n", n, who, what, flag, count
     fflush()
 }
 
@@ -57,20 +57,26 @@ function full(    of_dropped) {
 
 # Why the entry is refused.
 function why() {
-    if (answer == 11) return "there is no thread " thread ", only " (threads == 1 ? "thread 0" : "0 to " (threads - 1))
+    if (answer == 11) return "there is no thread " thread ", only " (threads == 1 ? "thread 0" : threads == 2 ? "0 or 1" : "0 to " (threads - 1))
     if (answer == 12) return ops[thread] ? "its script is finished" : "its script is empty"
     if (answer == 13 && mover != "") return "thread " mover " has begun into_inner"
     if (answer == 13) return "the lock is finished, by into_inner of thread " finisher
     if (answer == 14) return NAME[code] " does not fit at " from ", " hold(from)
-    if (answer == 15) return "into_inner cannot begin: " others(not_idle(thread)) " not Idle"
+    if (answer == 15) return "no into_inner while " others(not_idle(thread)) " not Idle"
     return value[thread, number - 1] " is not permitted, only " permitted()
 }
 
 function hold(at) { return at == "Reading" ? "with a read handle" : at == "Writing" ? "with a write handle" : "without a handle" }
 
-# 'thread 0 is', 'threads 0, 1 and 3 are'
-function others(list,    n, i, part, text) {
+# 'thread 0 is', 'threads 0 and 1 are', 'threads 1, 3 and 5 to 7 are'; where that is too long for its column, how many they are.
+function others(list,    n, i, j, part, text) {
     n = split(list, part, " ")
-    for (i = 1; i <= n; i++) text = text (i == 1 ? "" : i == n ? " and " : ", ") part[i]
-    return n == 1 ? "thread " text " is" : "threads " text " are"
+    if (n == 1) return "thread " part[1] " is"
+    for (i = 1; i <= n; i = j + 1) {
+        j = i
+        while (j < n && part[j + 1] == part[j] + 1) j++
+        if (j == i + 1) j = i
+        text = text (i == 1 ? "" : j == n ? " and " : ", ") part[i] (j > i ? " to " part[j] : "")
+    }
+    return (length(text) > 17 ? n " threads" : "threads " text) " are"
 }

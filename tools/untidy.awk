@@ -47,7 +47,7 @@ function of_the_rest(t,    at_place, i, o) {
     at_place = place[t] == "Reading" ? "Reading" : place[t] ~ /^(Writing|WritePut)$/ ? "Writing" : "Idle"
     for (i = at[t]; i < ops[t]; i++) {
         o = op[t, i]
-        if (!((at_place, o) in ACCESS)) return whose(t, i) ", does not fit, since " misfit(t, o, at_place)
+        if (!((at_place, o) in ACCESS)) return whose(t, i) ", does not fit, since " misfit(t, i, at_place)
         if (o == 6) return whose(t, i) ", would give up its " handle(at_place) " without a release: " release_instead(t, at_place)
         if (o == 7) return whose(t, i) ", is still to come, and would finish the lock: " take_out(t, i)
         if (o == 5 && !permits(value[t, i])) return whose(t, i) ": " value[t, i] " is not permitted: put " permitted_one()
@@ -57,12 +57,15 @@ function of_the_rest(t,    at_place, i, o) {
     return "thread " t " ends its script with a " handle(at_place) " held: add " release(t, at_place, "behind its last op line")
 }
 
-# An operation that does not fit at Idle wants a handle that is not there; elsewhere the handle is of the other kind, or in the way.
-function misfit(t, o, at_place) {
-    if (at_place != "Idle") return "it would have a " handle(at_place) " there: take it out, or put " release(t, at_place, "before it")
-    if (o == 5) return "it would have no handle there: take it out, or put op," t ",4,0 (acquire_write) before it"
-    if (o == 6) return "it would have no handle there: take it out"
-    return "it would have no handle there: take it out, or put op," t ",1,0 (acquire_read) before it"
+# An operation that does not fit at Idle wants a handle that is not there; elsewhere the handle is of the other kind, or in the way. What to do
+# must not lead to the next misfit at the same line: behind a release only an acquire fits.
+function misfit(t, i, at_place,    o, has) {
+    o = op[t, i]
+    has = "the thread would have " (at_place == "Idle" ? "no handle" : "a " handle(at_place)) " there: "
+    if (at_place == "Idle" && o == 6) return has "take it out"
+    if (at_place == "Idle") return has "take it out, or put op," t (o == 5 ? ",4,0 (acquire_write)" : ",1,0 (acquire_read)") " before it"
+    if (o == 3 || o == 5) return has "write " release(t, at_place, "in place of " line_of(t, i))
+    return has "take it out" (o == 1 || o == 4 ? ", or put " release(t, at_place, "before it") : "")
 }
 
 function permitted_one() { return kind == 2 ? "an " (a == "0" ? "even" : "odd") " number" : permitted() }
