@@ -33,8 +33,8 @@ fail() {
     exit
 }
 [ "$(head -n 1 "$room/told")" = "$(grep '^refused,' "$room/trace")" ] || fail "another refusal"
-for awk in awk gawk original-awk "busybox awk"; do
-    command -v ${awk% awk} >/dev/null || continue
+for awk in awk mawk gawk "gawk --posix" original-awk "busybox awk"; do
+    command -v "${awk%% *}" >/dev/null || continue
     $awk -f tools/rows.awk -f tools/explain.awk "$room/scenario" "$room/trace" >"$room/words" || fail "no words"
     $awk -f tools/rows.awk -f tools/untidy.awk "$room/scenario" "$room/trace" >"$room/untidy" || [ $? -eq 3 ] || fail "no line about tidy"
     [ ! -s "$room/told" ] || file=a.csv $awk -f tools/refused.awk <"$room/told" >"$room/refused" || fail "no line about the refusal"

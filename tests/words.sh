@@ -161,6 +161,14 @@ for awk in $awks; do
         "$(with "$awk" -f tools/rows.awk -f tools/untidy.awk examples/case-k.csv "$room/drained")"
 done
 
+# Rows of six digits stand below the others.
+printf 'kind,a,b,c\r\nlock,3,5,1\r\npred,0,0,0\r\nrun,0,65535,0\r\nrun,0,34466,0\r\n' >"$room/many.csv"
+awk 'BEGIN { for (n = -1; n <= 100000; n++) print n < 0 ? "n,thread,access,answer,got,exc,rc\r" : n ",0,0,12,0,0,0\r" }' >"$room/many.out"
+for awk in $awks; do
+    same "many rows ($awk)" " 100000       0  refused 12: its script is empty                                         down      0" \
+        "$(with "$awk" -f tools/rows.awk -f tools/explain.awk "$room/many.csv" "$room/many.out" | tail -n 1)"
+done
+
 # A trace of another scenario is not explained.
 for awk in $awks; do
     same "another trace ($awk)" "trestlecat: row 0 of the trace is not one of this scenario: give a scenario and its own trace" \
