@@ -138,8 +138,8 @@ function mend(reader, rest,    base) {
     return "this mends it: " reader " <" quoted(file) rest " >" quoted("mended-" base)
 }
 
-# Every line with its right break: those that end with LF, or where CR ends lines, those too.
-function breaks() { return mend(cr_ends() ? "tr -s '\\r' '\\n'" : "tr -d '\\r'", " | awk -v ORS='\\r\\n' 1") }
+# Every line with its right break, whatever it ends with: LF, CR, CR LF, several of them, or each line with another.
+function breaks() { return mend("tr -s '\\r' '\\n'", " | awk -v ORS='\\r\\n' 1") }
 
 # ---- 31: the form of a line
 
@@ -185,12 +185,12 @@ function alone(    i, inside) {
     return "there is a CR without an LF inside the line: take it out, or put an LF behind it where the line should end"
 }
 
-# Whether a line of a known kind starts behind a CR, with a comma, a semicolon or a tab behind the kind.
+# Whether a line of a known kind starts behind a CR, with a comma, a semicolon or a tab behind the kind, which may be in quotes.
 function cr_ends(    i, j, word) {
     for (i = 1; i <= bytes; i++) {
         if (byte[i] != 13) continue
         word = ""
-        for (j = i + 1; j <= bytes && byte[j] >= 97 && byte[j] <= 122; j++) word = word visible(byte[j])
+        for (j = i + 1; j <= bytes && (byte[j] >= 97 && byte[j] <= 122 || byte[j] == 34); j++) if (byte[j] != 34) word = word visible(byte[j])
         if (word in FORM && j <= bytes && (byte[j] == 44 || byte[j] == 59 || byte[j] == 9)) return 1
     }
     return 0
@@ -279,7 +279,8 @@ function out_of_order() {
 
 function no_such_thread(    wrong) {
     wrong = named(2) ", and line 2 has " threads (threads == "1" ? " thread" : " threads") ", counted from 0: write "
-    return wrong (threads == "1" ? "0" : threads == "2" ? "0 or 1" : "0 to " (threads - 1)) " there" (threads == "16" ? "" : ", or more threads on line 2")
+    wrong = wrong (threads == "1" ? "0" : threads == "2" ? "0 or 1" : "0 to " (threads - 1)) " there"
+    return wrong (threads == "16" ? "" : ", or more threads on line 2")
 }
 
 function unknown(    known) {
