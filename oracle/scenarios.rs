@@ -435,7 +435,18 @@ fn edges(put: &mut dyn FnMut(Vec<u8>)) {
         other[3] = format!("op,0,1,{}", "0".repeat(length - 7));
         put(text(&other));
     }
-    for whole in ["", "\r", "\n", "\r\n", "\r\n\r\n", "\"", "kind,a,b,c", "kind,a,b,c\r", "kind,a,b,c\n", "kind,a,b,c\r\n"] {
+    for whole in [
+        "",
+        "\r",
+        "\n",
+        "\r\n",
+        "\r\n\r\n",
+        "\"",
+        "kind,a,b,c",
+        "kind,a,b,c\r",
+        "kind,a,b,c\n",
+        "kind,a,b,c\r\n",
+    ] {
         put(whole.as_bytes().to_vec());
     }
     for lines in [&lines[..2], &lines[..3], &lines[..8]] {
@@ -979,6 +990,52 @@ fn long(put: &mut dyn FnMut(Vec<u8>)) {
 }
 
 // ---------------------------------------------------------------------------------------------------------------------------------------
+// tidy
+
+impl Random {
+    // Whole sections: reads with up to three borrows, and releases of values that are permitted.
+    fn sections(&mut self, most: usize, pred: [u64; 3]) -> Vec<Op> {
+        let mut script = Vec::new();
+        for _ in 0..self.below(most + 1) {
+            if self.below(3) == 0 {
+                let value = self.value(pred, usize::MAX);
+                script.extend([(4, 0), (5, value)]);
+            } else {
+                script.push((1, 0));
+                script.extend(vec![(2, 0); self.below(4)]);
+                script.push((3, 0));
+            }
+        }
+        script.truncate(FULL);
+        let unfinished = script.iter().rposition(|o| o.0 == 1 || o.0 == 4);
+        match (script.last(), unfinished) {
+            (Some((3 | 5, _)), _) | (None, _) => script,
+            (_, at) => script[..at.unwrap_or(0)].to_vec(),
+        }
+    }
+}
+
+// Scripts that a drain can end, with a schedule that stops anywhere, before its first entry too.
+fn tidy(put: &mut dyn FnMut(Vec<u8>)) {
+    let mut random = Random(20_261_116);
+    for k in 0..6_000 {
+        let (threads, most) = if k % 40 == 0 {
+            (16, 20)
+        } else {
+            (1 + random.below(5), 1 + random.below(4))
+        };
+        let (pred, first) = random.pred();
+        let scripts = (0..threads).map(|_| random.sections(most, pred)).collect();
+        let top = random.of(&[1, 2, 3, 5, u64::MAX]);
+        let (entries, times) = (random.below(20 * threads), random.of(&[1, 2, 4, 9]));
+        let schedule = random.schedule(threads, entries, times);
+        let mut s = Scenario::new(top, pred, scripts, schedule);
+        s.lock[1] = first;
+        put(s.text());
+    }
+}
+
+// ---------------------------------------------------------------------------------------------------------------------------------------
 // The families, and the comparison.
 
 type Put<'a> = &'a mut dyn FnMut(Vec<u8>);
@@ -1001,7 +1058,7 @@ fn all_marked(put: Put) {
     marked().iter().for_each(|s| put(s.text()));
 }
 
-const FAMILIES: [(&str, fn(Put)); 8] = [
+const FAMILIES: [(&str, fn(Put)); 9] = [
     ("marked", all_marked),
     ("edges", edges),
     ("damaged", damaged),
@@ -1010,6 +1067,7 @@ const FAMILIES: [(&str, fn(Put)); 8] = [
     ("triples", triples),
     ("short", short),
     ("long", long),
+    ("tidy", tidy),
 ];
 
 #[derive(Clone, Copy, Default)]
