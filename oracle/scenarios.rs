@@ -1105,13 +1105,14 @@ impl Compare {
         let same = ours.is_some() && ours == theirs;
         let printed = ours.unwrap_or_default();
         let lines = printed.iter().filter(|b| **b == b'\n').count() as u64;
-        let refused = u64::from(printed.windows(8).any(|w| w == b"refused,"));
+        let has = |word: &[u8]| u64::from(printed.windows(8).any(|w| w == word));
+        let (refused, drained) = (has(b"refused,"), has(b"drained,"));
         let mut counts = self.counts.lock().expect("no worker fails");
         let c = &mut counts[family];
         c.files += 1;
         c.in_bytes += text.len() as u64;
         c.out_bytes += printed.len() as u64;
-        c.rows += lines.saturating_sub(1 + refused);
+        c.rows += lines.saturating_sub(1 + refused + drained);
         c.refused += refused;
         if !same {
             c.different += 1;
