@@ -31,7 +31,7 @@ pub struct DrainReturn {
 }
 
 // Where a thread stops: at Idle or at WriteWait, at Idle, at its script's end.
-enum Stop {
+pub enum Stop {
     IdleOrWait,
     Idle,
     End,
@@ -208,7 +208,7 @@ fn until(
 }
 
 // Whether a record with a script of that length stops.
-fn stops(stop: Stop, rec: Rec, len: u64) -> bool
+pub fn stops(stop: Stop, rec: Rec, len: u64) -> bool
     ensures { λ r. ⌜ r ≡ stopsAt stop len rec ⌝ }
 {
     let place = rec.place;

@@ -6,11 +6,13 @@ ghost use lib.Seq.{sets};
 ghost use Rattle.machine.specs.Lists.{lists, scriptsOf};
 ghost use Rattle.machine.specs.Drain.{until, sweep};
 ghost use Rattle.lock.specs.ByValue.{runRefusalOf};
+ghost use Rattle.lock.specs.Drain.{stopOf};
 ghost use Rattle.lock_order.specs.Order.{orderOf, answerOf};
-ghost use Rattle.lock_order.specs.Write.{stopsAt, stopOf, Able, oneOf, within, wentOf};
+ghost use Rattle.lock_order.specs.Write.{Able, oneOf, within, wentOf};
+use lock::drain::Stop;
+use lock::drain::stops;
 use lock_words::names::NONE;
 use machine::Lock;
-use machine::Place;
 use machine::Rec;
 use machine::Refusal;
 
@@ -26,13 +28,6 @@ pub struct Answer {
     pub refusal: Refusal,
     pub n: u64,
     pub bound: u64,
-}
-
-// Where a thread stops: at Idle or at WriteWait, at Idle, at its script's end.
-enum Stop {
-    IdleOrWait,
-    Idle,
-    End,
 }
 
 // Entries under way: the state after them, and how many were written.
@@ -188,18 +183,5 @@ fn stepped(from: Going, i: u64, lens: &[u64], ops: &[u64], vals: &[u64], count: 
         lock,
         recs,
         used: from.used + 1,
-    }
-}
-
-// Whether a record with a script of that length stops.
-fn stops(stop: Stop, rec: Rec, len: u64) -> bool
-    ensures { λ r. ⌜ r ≡ stopsAt stop len rec ⌝ }
-{
-    let place = rec.place;
-    match stop {
-        Stop::IdleOrWait => lock_words::is(place, Place::Idle)
-            || lock_words::is(place, Place::WriteWait),
-        Stop::Idle => lock_words::is(place, Place::Idle),
-        Stop::End => len <= rec.at,
     }
 }
