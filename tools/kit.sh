@@ -17,8 +17,8 @@ run() {
     fi
 }
 
-# below CRATE..: these crates and all that they stand on, a line each, libraries before those that use them; the kit's own libraries are left out
-# in the folder of crates.txt
+# below CRATE..: these crates and all that they stand on, a line each, libraries before those that use them. The kit's own libraries are left out.
+# It is to be called in the folder of crates.txt.
 below() {
     LC_ALL=C awk -v wanted="$*" '
         function visit(name,    n, i, part) {
