@@ -7,7 +7,10 @@ typedef unsigned long uint64_t;
 
 /* The rules' numbers by name: operations, access codes, the refusals of an entry. */
 enum { ACQUIRE_READ = 1, BORROW, RELEASE_READ, ACQUIRE_WRITE, RELEASE_WRITE, DROP_HANDLE, INTO_INNER };
-enum { LOADS_RC = 1, TRIES_RC, LOADS_EXC, GIVES_BACK, BORROWS_CELL, RELEASES_RC, TRIES_EXC, WAITS_RC, TAKES_CELL, PUTS_CELL, STORES_EXC, DROPS_HANDLE };
+enum {
+    LOADS_RC = 1, EXCHANGES_RC, LOADS_EXC, GIVES_BACK, BORROWS_CELL, RELEASES_RC, EXCHANGES_EXC, WAITS_RC, TAKES_CELL, PUTS_CELL, STORES_EXC,
+    DROPS_HANDLE, FAILS_RC, FAILS_EXC
+};
 enum { NO_THREAD = 11, SCRIPT_FINISHED, LOCK_GONE, DOES_NOT_FIT, OTHERS_BUSY, NOT_PERMITTED };
 enum { ANY, EITHER, PARITY };
 enum { ROW_WORDS = 6, MOST_THREADS = 16 };
@@ -106,10 +109,14 @@ static uint64_t load_rc(struct lock *l, struct rec *r, uint64_t *got)
 
 static uint64_t try_rc(struct lock *l, struct rec *r, uint64_t *got)
 {
-    *got = l->rc == r->seen;
-    l->rc += *got;
-    to(r, *got ? READ_CHECK : IDLE);
-    return TRIES_RC;
+    *got = l->rc;
+    if (l->rc != r->seen) {
+        to(r, IDLE);
+        return FAILS_RC;
+    }
+    l->rc++;
+    to(r, READ_CHECK);
+    return EXCHANGES_RC;
 }
 
 static uint64_t load_exc(struct lock *l, struct rec *r, uint64_t *got)
@@ -152,12 +159,12 @@ static uint64_t try_exc(struct lock *l, struct rec *r, uint64_t t, uint64_t op, 
         l->moved = 1;
         l->mover = t;
     }
-    *got = !l->exc;
-    if (!l->exc) {
-        l->exc = 1;
-        to(r, WRITE_WAIT);
-    }
-    return TRIES_EXC;
+    *got = l->exc;
+    if (l->exc)
+        return FAILS_EXC;
+    l->exc = 1;
+    to(r, WRITE_WAIT);
+    return EXCHANGES_EXC;
 }
 
 static uint64_t wait_rc(struct lock *l, struct rec *r, uint64_t *got)
