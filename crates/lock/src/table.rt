@@ -12,6 +12,10 @@ use lock_words::names::ACQUIRE_WRITE;
 use lock_words::names::BORROWS;
 use lock_words::names::BORROWS_CELL;
 use lock_words::names::DROPS_HANDLE;
+use lock_words::names::EXCHANGES_EXC;
+use lock_words::names::EXCHANGES_RC;
+use lock_words::names::FAILS_EXC;
+use lock_words::names::FAILS_RC;
 use lock_words::names::GIVES_BACK;
 use lock_words::names::LOADS_EXC;
 use lock_words::names::LOADS_RC;
@@ -23,8 +27,6 @@ use lock_words::names::RELEASE_WRITE;
 use lock_words::names::RELEASES_RC;
 use lock_words::names::STORES_EXC;
 use lock_words::names::TAKES_CELL;
-use lock_words::names::TRIES_EXC;
-use lock_words::names::TRIES_RC;
 use lock_words::names::WAITS_RC;
 use lock_words::names::YES;
 use machine::Did;
@@ -129,17 +131,18 @@ fn try_rc(lock: Lock, rec: Rec) -> Did
     let rc = lock.rc;
     let seen = rec.seen;
     let x = lock_access::exchange_count(rc, seen, Count(seen.0 + 1));
+    let old = x.old;
     let left = x.left;
     let after = lock_words::with_rc(lock, left);
     if x.done {
         does(
             after,
             lock_words::goes(rec, Place::ReadCheck),
-            TRIES_RC,
-            YES,
+            EXCHANGES_RC,
+            old.0,
         )
     } else {
-        does(after, lock_words::goes(rec, Place::Idle), TRIES_RC, NO)
+        does(after, lock_words::goes(rec, Place::Idle), FAILS_RC, old.0)
     }
 }
 
@@ -219,11 +222,11 @@ fn try_exc(lock: Lock, rec: Rec) -> Did
         does(
             after,
             lock_words::goes(rec, Place::WriteWait),
-            TRIES_EXC,
-            YES,
+            EXCHANGES_EXC,
+            NO,
         )
     } else {
-        does(after, lock_words::goes(rec, Place::Idle), TRIES_EXC, NO)
+        does(after, lock_words::goes(rec, Place::Idle), FAILS_EXC, YES)
     }
 }
 

@@ -13,7 +13,7 @@ use Rattle.machine.specs.Sound.{Sound}
 use Rattle.machine.specs.Run.{run, accepted, wordsOf, entries, runRefusal, RunLeft, madeRun, runLent}
 use Rattle.machine.specs.declared.Lock.{Lock}
 use Rattle.machine.specs.declared.Rec.{Rec}
-use Rattle.machine.proofs.Accesses.{code-1, code-2, code-3, code-4, code-5, code-6, code-7, code-8, code-9, code-10, code-11, code-12, one-of-twelve, got-permitted, others-stay}
+use Rattle.machine.proofs.Accesses.{code-1, code-2, code-3, code-4, code-5, code-6, code-7, code-8, code-9, code-10, code-11, code-12, code-13, code-14, exchange-told, one-of-fourteen, got-permitted, others-stay}
 use Rattle.machine.proofs.ExactEntry.{entry-exact}
 use Rattle.machine.proofs.RunLaws.{row-says}
 use Rattle.machine.proofs.RunRule.{made}
@@ -64,7 +64,7 @@ entered S L l i sound none =
     let (same-pred, same-top, size, others) = others-stay S L l i in
     record {
       thread = thread;
-      one-of-twelve = one-of-twelve S L l i none;
+      one-of-fourteen = one-of-fourteen S L l i none;
       code-1 = code-1 S L l i sound;
       code-2 = code-2 S L l i sound;
       code-3 = code-3 S L l i sound;
@@ -77,6 +77,9 @@ entered S L l i sound none =
       code-10 = code-10 S L l i sound;
       code-11 = code-11 S L l i sound;
       code-12 = code-12 S L l i sound;
+      code-13 = code-13 S L l i sound;
+      code-14 = code-14 S L l i sound;
+      told = exchange-told S L l i none;
       permitted = ⊎-elim (got-permitted .0 S L l i sound) (got-permitted .1 S L l i sound);
       flag = flag;
       count = count;

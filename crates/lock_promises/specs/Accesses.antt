@@ -8,12 +8,12 @@ use mathlib.Core.List.{List, [], _∷_, _++_}
 use lib.Dec.{eqb}
 use lib.ListN.{length, getD, take, drop}
 use Rattle.cell.specs.Pred.{permits}
-use Rattle.machine.specs.Names.{loadsRc, triesRc, loadsExc, givesBack, borrowsCell, releasesRc, triesExc, waitsRc, takesCell, putsCell, storesExc, dropsHandle, mostThreads, rowWords}
+use Rattle.machine.specs.Names.{loadsRc, exchangesRc, loadsExc, givesBack, borrowsCell, releasesRc, exchangesExc, waitsRc, takesCell, putsCell, storesExc, dropsHandle, failsRc, failsExc, mostThreads, rowWords}
 use Rattle.machine.specs.Words.{bit}
 use Rattle.machine.specs.Refusals.{Exact}
 use Rattle.machine.specs.Lists.{Lent, scriptsOf}
 use Rattle.machine.specs.Step.{Scripts, here, opOf, valOf, step}
-use Rattle.machine.specs.Accesses.{TableRow, Does1, Does2, Does3, Does4, Does5, Does6, Does7, Does8, Does9, Does10, Does11, Does12}
+use Rattle.machine.specs.Accesses.{TableRow, Does1, Does2, Does3, Does4, Does5, Does6, Does7, Does8, Does9, Does10, Does11, Does12, Does13, Does14, TellsExchange}
 use Rattle.machine.specs.Run.{wordsOf, RunLeft, runLent}
 use Rattle.machine.specs.When.{AtEntry}
 use Rattle.machine.specs.declared.Lock.{Lock}
@@ -55,19 +55,23 @@ OfCode code Does S L l i L′ l′ row = row .access ≡ code → Does i L (here
 
 pub record Entered (S : Scripts) (L : Lock) (l : List Rec) (i : ℕ) (L′ : Lock) (l′ : List Rec) (row : Row) : Type 0 where
   pub thread : row .thread ≡ i
-  pub one-of-twelve : (1 ≤ row .access) × (row .access ≤ dropsHandle)
+  pub one-of-fourteen : (1 ≤ row .access) × (row .access ≤ failsExc)
   pub code-1 : OfCode loadsRc Does1 S L l i L′ l′ row
-  pub code-2 : OfCode triesRc Does2 S L l i L′ l′ row
+  pub code-2 : OfCode exchangesRc Does2 S L l i L′ l′ row
   pub code-3 : OfCode loadsExc Does3 S L l i L′ l′ row
   pub code-4 : OfCode givesBack Does4 S L l i L′ l′ row
   pub code-5 : OfCode borrowsCell Does5 S L l i L′ l′ row
   pub code-6 : OfCode releasesRc Does6 S L l i L′ l′ row
-  pub code-7 : OfCode triesExc Does7 S L l i L′ l′ row
+  pub code-7 : OfCode exchangesExc Does7 S L l i L′ l′ row
   pub code-8 : OfCode waitsRc Does8 S L l i L′ l′ row
   pub code-9 : OfCode takesCell Does9 S L l i L′ l′ row
   pub code-10 : OfCode putsCell Does10 S L l i L′ l′ row
   pub code-11 : OfCode storesExc Does11 S L l i L′ l′ row
   pub code-12 : OfCode dropsHandle Does12 S L l i L′ l′ row
+  pub code-13 : OfCode failsRc Does13 S L l i L′ l′ row
+  pub code-14 : OfCode failsExc Does14 S L l i L′ l′ row
+  -- where the source makes an exchange, code and got are what it returned
+  pub told : TellsExchange L (here l i) (opOf S l i) row
   -- what a borrow and a take got is permitted
   pub permitted : (row .access ≡ borrowsCell) ⊎ (row .access ≡ takesCell) → permits (L .pred) (row .got) ≡ true
   -- the row has the flag and the count after it

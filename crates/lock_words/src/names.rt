@@ -18,7 +18,8 @@ pub const INTO_INNER: u64 = 7;
 // Access codes of a row.
 pub const LOADS_RC: u64 = 1;
 
-pub const TRIES_RC: u64 = 2;
+// An exchange that is done; one that failed is 13 or 14.
+pub const EXCHANGES_RC: u64 = 2;
 
 pub const LOADS_EXC: u64 = 3;
 
@@ -28,7 +29,7 @@ pub const BORROWS_CELL: u64 = 5;
 
 pub const RELEASES_RC: u64 = 6;
 
-pub const TRIES_EXC: u64 = 7;
+pub const EXCHANGES_EXC: u64 = 7;
 
 pub const WAITS_RC: u64 = 8;
 
@@ -40,7 +41,11 @@ pub const STORES_EXC: u64 = 11;
 
 pub const DROPS_HANDLE: u64 = 12;
 
-// What is got where no value is: by an exchange that is done or lost, and of a flag that is up or down; by a store or a drop.
+pub const FAILS_RC: u64 = 13;
+
+pub const FAILS_EXC: u64 = 14;
+
+// What is got of a flag that is up or down, and, where no value is, by a store or a drop.
 pub const YES: u64 = 1;
 
 pub const NO: u64 = 0;

@@ -2,14 +2,14 @@
 -- table says afterwards. What a borrow and a take got is permitted; and what no entry changes.
 use Prim.Native.Nat.{ℕ, _≤_}
 use mathlib.Core.Path.{_≡_, refl, ap, subst, _∙_}
-use mathlib.Core.Logic.{_≢_, inl, inr}
+use mathlib.Core.Logic.{_≢_, inl, inr, ⊎-elim}
 use mathlib.Core.Bool.{true, false, cond, _||_, false≢true}
 use mathlib.Core.List.{List}
 use native.Mathlib.Omega.{arith}
 use lib.Dec.{eqb}
 use lib.ListN.{length, length-set}
 use lib.Seq.{getD-set-same, getD-set-other}
-use package.borrow.Author.Tests.{le-leb, eq-eqb}
+use package.borrow.Author.Tests.{le-leb, eq-eqb, eqb-true, eqb-false}
 use Rattle.atomic.specs.Access as atomic
 use Rattle.atomic.specs.Permission.{keeps}
 use Rattle.cell.specs.Access.{answerOf, valueOf}
@@ -19,17 +19,18 @@ use Rattle.cell.specs.Pred.{permits}
 use Rattle.cell.specs.declared.value.Content.{Content}
 use Rattle.cell.specs.declared.value.Content.the-variants.{Empty, Full}
 use Rattle.cell.specs.declared.Answer.the-variants.{Value, Stored}
-use Rattle.machine.specs.Names.{loadsRc, triesRc, loadsExc, givesBack, borrowsCell, releasesRc, triesExc, waitsRc, takesCell, putsCell, storesExc, dropsHandle}
+use Rattle.machine.specs.Names.{loadsRc, exchangesRc, loadsExc, givesBack, borrowsCell, releasesRc, exchangesExc, waitsRc, takesCell, putsCell, storesExc, dropsHandle, failsRc, failsExc}
 use Rattle.machine.specs.Words.{bit, unbegun}
-use Rattle.machine.specs.Step.{Scripts, Left, answer, step, settle, here, opOf, valOf, entryRefusal}
+use Rattle.machine.specs.Step.{Scripts, Left, unmoved, tryRc, tryExc, claimed, act, answer, step, settle, rowOf, here, opOf, valOf, entryRefusal}
 use Rattle.machine.specs.Sound.{Tally, Sound}
-use Rattle.machine.specs.Accesses.{Rest, TableRow, IsBit, Does1, Does2, Does3, Does4, Does5, Does6, Does7, Does8, Does9, Does10, Does11, Does12, Code1, Code2, Code3, Code4, Code5, Code6, Code7, Code8, Code9, Code10, Code11, Code12, OneOrNought, OneOfTwelve, GotPermitted, OthersStay}
+use Rattle.machine.specs.Accesses.{Rest, TableRow, IsBit, Does1, Does2, Does3, Does4, Does5, Does6, Does7, Does8, Does9, Does10, Does11, Does12, Does13, Does14, Code1, Code2, Code3, Code4, Code5, Code6, Code7, Code8, Code9, Code10, Code11, Code12, Code13, Code14, TellsRc, TellsExc, ExchangeTold, OneOrNought, OneOfFourteen, GotPermitted, OthersStay}
 use Rattle.machine.specs.Move.{Move, load-below, load-full, try-done, try-lost, check-clear, check-set, back, lend, release, exc-done, exc-lost, into-done, into-lost, wait-done, wait-more, take, take-last, put, store, drop-read, drop-write}
 use Rattle.machine.specs.declared.Did.{Did}
 use Rattle.machine.specs.declared.Lock.{Lock}
 use Rattle.machine.specs.declared.Rec.{Rec}
+use Rattle.machine.specs.declared.Row.{Row}
 use Rattle.machine.specs.declared.Place.{Place}
-use Rattle.machine.proofs.Moves.{moves}
+use Rattle.machine.proofs.Moves.{either-way, moves}
 use Rattle.machine.proofs.Keep.{moved, Before, bit-le}
 use Rattle.machine.proofs.Steps.{frame, passed, answered, before}
 use Rattle.machine.proofs.Every.{says-bit}
@@ -38,18 +39,20 @@ use Rattle.machine.proofs.Every.{says-bit}
 abbrev AsTable : ℕ → TableRow
 AsTable access i L r o v M s got =
     cond (eqb access loadsRc) (Does1 i L r o v M s got)
-    (cond (eqb access triesRc) (Does2 i L r o v M s got)
+    (cond (eqb access exchangesRc) (Does2 i L r o v M s got)
     (cond (eqb access loadsExc) (Does3 i L r o v M s got)
     (cond (eqb access givesBack) (Does4 i L r o v M s got)
     (cond (eqb access borrowsCell) (Does5 i L r o v M s got)
     (cond (eqb access releasesRc) (Does6 i L r o v M s got)
-    (cond (eqb access triesExc) (Does7 i L r o v M s got)
+    (cond (eqb access exchangesExc) (Does7 i L r o v M s got)
     (cond (eqb access waitsRc) (Does8 i L r o v M s got)
     (cond (eqb access takesCell) (Does9 i L r o v M s got)
     (cond (eqb access putsCell) (Does10 i L r o v M s got)
     (cond (eqb access storesExc) (Does11 i L r o v M s got)
     (cond (eqb access dropsHandle) (Does12 i L r o v M s got)
-    (Unit {0}))))))))))))
+    (cond (eqb access failsRc) (Does13 i L r o v M s got)
+    (cond (eqb access failsExc) (Does14 i L r o v M s got)
+    (Unit {0}))))))))))))))
 
 -- ---- what the cell answers, by what is in it
 of-full : (c : Content) → bit (isFull c) ≡ 1 → (cell.borrow c ≡ keeps c (Value (kept c))) × (cell.take c ≡ record { leaves = Empty; answers = Value (kept c) })
@@ -70,8 +73,8 @@ module _ (i : ℕ) (L : Lock) (n : ℕ) (ops : ℕ → ℕ) (R : Tally) (r : Rec
       → AsTable (d .access) i L (moved r p) (ops (r .at)) v (d .lock) (d .rec) (d .got)
   as-table p d (load-below e t) b = (refl, e, (refl, refl, refl, refl), rw t refl, rest L)
   as-table p d (load-full e t) b = (refl, e, (refl, refl, refl, refl), rw t refl, rest L)
-  as-table p d (try-done e t) b = (refl, e, rw t (refl, refl, refl, refl), refl, refl, rest L)
-  as-table p d (try-lost e t) b = (refl, e, rw t (refl, refl, refl, refl), refl, refl, rest L)
+  as-table p d (try-done e t) b = (refl, e, rw t (refl, refl, refl, refl), eqb-true (L .rc .0) (r .seen .0) t, refl, rest L)
+  as-table p d (try-lost e t) b = (refl, e, rw t (refl, refl, refl, refl), eqb-false (L .rc .0) (r .seen .0) t, refl, rest L)
   as-table p d (check-clear e t) b = (refl, e, rw t (refl, refl, refl, refl), refl, refl, rest L)
   as-table p d (check-set e t) b = (refl, e, rw t (refl, refl, refl, refl), refl, refl, rest L)
   as-table p d (back e) b = (refl, e, rw (le-leb 1 (L .rc .0) (omega arith)) (refl, refl, refl, refl), refl, rest L)
@@ -107,7 +110,7 @@ pub code-1 : Code1
 code-1 = at-code loadsRc
 
 pub code-2 : Code2
-code-2 = at-code triesRc
+code-2 = at-code exchangesRc
 
 pub code-3 : Code3
 code-3 = at-code loadsExc
@@ -122,7 +125,7 @@ pub code-6 : Code6
 code-6 = at-code releasesRc
 
 pub code-7 : Code7
-code-7 = at-code triesExc
+code-7 = at-code exchangesExc
 
 pub code-8 : Code8
 code-8 = at-code waitsRc
@@ -139,21 +142,46 @@ code-11 = at-code storesExc
 pub code-12 : Code12
 code-12 = at-code dropsHandle
 
--- ---- what every row has: no state has to be sound for it
--- got is 1 or 0, if the access is an exchange or a load of the flag
-abbrev GotBit : ℕ → ℕ → Type 0
-GotBit access got = (eqb access triesRc || (eqb access loadsExc || eqb access triesExc)) ≡ true → IsBit got
+pub code-13 : Code13
+code-13 = at-code failsRc
 
--- and the code is one of the twelve
+pub code-14 : Code14
+code-14 = at-code failsExc
+
+-- ---- what an exchange returned: no state has to be sound for it
+-- the row of what was done by thread i
+abbrev doneRow : ℕ → Did → Row
+doneRow i d = rowOf i (d .lock) (d .access) 0 (d .got)
+
+tells-rc : (i : ℕ) (L : Lock) (r : Rec) → TellsRc L r (doneRow i (tryRc L r))
+tells-rc i L r = either-way (λ (d : Did). TellsRc L r (doneRow i d)) (unmoved L r) (λ e. (inl refl, rw e refl)) (λ e. (inr refl, rw e refl))
+
+tells-exc : (i : ℕ) (L : Lock) (r : Rec) → TellsExc L (doneRow i (tryExc L r))
+tells-exc i L r = either-way (λ (d : Did). TellsExc L (doneRow i d)) (L .exc) (λ e. (inr refl, rw e refl)) (λ e. (inl refl, rw e refl))
+
+pub exchange-told : ExchangeTold
+unfolding step answer act
+exchange-told S L l i none =
+    rw (eq-eqb (entryRefusal S L l i) 0 none) (
+      λ p. rw p (tells-rc i L (here l i)),
+      λ p. ⊎-elim (λ e. rw (p, e) (tells-exc i L (here l i))) (λ e. rw (p, e) (tells-exc i (claimed L i) (here l i))),
+    )
+
+-- ---- what every row has: no state has to be sound for it
+-- got is 1 or 0, if the access is a load or an exchange of the flag
+abbrev GotBit : ℕ → ℕ → Type 0
+GotBit access got = (eqb access loadsExc || (eqb access exchangesExc || eqb access failsExc)) ≡ true → IsBit got
+
+-- and the code is one of the fourteen
 abbrev Known : ℕ → ℕ → Type 0
-Known access got = (1 ≤ access) × (access ≤ dropsHandle) × GotBit access got
+Known access got = (1 ≤ access) × (access ≤ failsExc) × GotBit access got
 
 module _ (i : ℕ) (L : Lock) (r : Rec) (o v : ℕ) where
   known : (p : Place) (d : Did) → Move i L r o v p d → Known (d .access) (d .got)
   known p d (load-below e t) = (omega arith, omega arith, λ h. absurd (false≢true h))
   known p d (load-full e t) = (omega arith, omega arith, λ h. absurd (false≢true h))
-  known p d (try-done e t) = (omega arith, omega arith, λ h. refl)
-  known p d (try-lost e t) = (omega arith, omega arith, λ h. refl)
+  known p d (try-done e t) = (omega arith, omega arith, λ h. absurd (false≢true h))
+  known p d (try-lost e t) = (omega arith, omega arith, λ h. absurd (false≢true h))
   known p d (check-clear e t) = (omega arith, omega arith, λ h. refl)
   known p d (check-set e t) = (omega arith, omega arith, λ h. refl)
   known p d (back e) = (omega arith, omega arith, λ h. absurd (false≢true h))
@@ -179,9 +207,9 @@ one-or-nought S L l i =
     (λ k h. absurd (false≢true h))
     (λ p d mv. known _ _ _ _ _ _ d mv .2)
 
-pub one-of-twelve : OneOfTwelve
+pub one-of-fourteen : OneOfFourteen
 unfolding step answer
-one-of-twelve S L l i e =
+one-of-fourteen S L l i e =
     let k = known _ _ _ _ _ _ _ (moves i L (here l i) (opOf S l i) (valOf S l i) (here l i .place) (passed S L l i e .fit)) in
     rw (eq-eqb (entryRefusal S L l i) 0 e) (k .0, k .1)
 

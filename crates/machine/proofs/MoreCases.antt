@@ -7,7 +7,7 @@ use Rattle.machine.specs.Lists.{total}
 use Rattle.machine.specs.Run.{run}
 use Rattle.machine.specs.Tidy.{costFrom, cost}
 use Rattle.machine.specs.Drain.{until, sweep, drain}
-use Rattle.machine.specs.MoreCases.{FailedInto, DroppedRead, DroppedWrite, FiveReaders, DrainOfL, SeenTwo, TakenFive, Bounds, MoreCases}
+use Rattle.machine.specs.MoreCases.{FailedInto, DroppedRead, DroppedWrite, FiveReaders, DrainOfL, SeenTwo, TakenFive, Bounds, FoundLess, FoundUp, MoreCases}
 
 failed-into : FailedInto
 unfolding run step answer entryRefusal lowest act fits sum permits total
@@ -41,5 +41,13 @@ bounds : Bounds
 unfolding sum total cost costFrom
 bounds = (refl, refl, refl, refl)
 
+found-less : FoundLess
+unfolding run step answer entryRefusal lowest act fits sum permits total
+found-less = (refl, refl, refl)
+
+found-up : FoundUp
+unfolding run step answer entryRefusal lowest act fits sum permits total
+found-up = (refl, refl, refl)
+
 pub more-cases : MoreCases
-more-cases = (failed-into, dropped-read, dropped-write, five-readers, drain-of-l, seen-two, taken-five, bounds)
+more-cases = (failed-into, dropped-read, dropped-write, five-readers, drain-of-l, seen-two, taken-five, bounds, found-less, found-up)

@@ -15,12 +15,13 @@ use Rattle.cell.specs.Pred.{permits}
 use Rattle.cell.specs.declared.value.Content.{Content}
 use Rattle.cell.specs.declared.Answer.{Answer}
 use Rattle.cell.specs.declared.Answer.the-variants.{Value, Stored}
-use Rattle.machine.specs.Names.{acquireRead, borrows, releaseRead, acquireWrite, releaseWrite, dropHandle, intoInner, loadsRc, triesRc, loadsExc, givesBack, borrowsCell, releasesRc, triesExc, waitsRc, takesCell, putsCell, storesExc, dropsHandle}
+use Rattle.machine.specs.Names.{acquireRead, borrows, releaseRead, acquireWrite, releaseWrite, dropHandle, intoInner, loadsRc, exchangesRc, loadsExc, givesBack, borrowsCell, releasesRc, exchangesExc, waitsRc, takesCell, putsCell, storesExc, dropsHandle, failsRc, failsExc}
 use Rattle.machine.specs.Words.{bit, is, recAt, plain}
 use Rattle.machine.specs.Step.{Scripts, step, here, opOf, valOf, entryRefusal}
 use Rattle.machine.specs.Sound.{Sound}
 use Rattle.machine.specs.declared.Lock.{Lock}
 use Rattle.machine.specs.declared.Rec.{Rec}
+use Rattle.machine.specs.declared.Row.{Row}
 use Rattle.machine.specs.declared.Mover.the-variants.{Nobody, By}
 use Rattle.machine.specs.declared.Place.the-variants.{Idle, ReadTry, ReadCheck, ReadBack, Reading, WriteWait, WriteTake, Writing, WritePut}
 
@@ -69,10 +70,6 @@ AtCode code Does =
 abbrev pub IsBit : ℕ → Type 0
 IsBit got = got ≡ bit (eqb got 1)
 
--- the reply of an exchange that is done, got 1, or failed, got 0: with the old value in both arms
-abbrev pub exchanged : {A : Type 0} → ℕ → A → Reply A
-exchanged got was = cond (eqb got 1) (old was) (failed was)
-
 -- each: the place, the operation, the access, what is got if the access does not say it, the record after, and the rest of the lock
 abbrev pub Does1 : TableRow
 Does1 i L r o v M s got =
@@ -84,15 +81,16 @@ Does1 i L r o v M s got =
 abbrev pub Code1 : Type 0
 Code1 = AtCode loadsRc Does1
 
+-- the exchange is done: the count found is the one seen
 abbrev pub Does2 : TableRow
 Does2 i L r o v M s got =
     (r .place ≡ ReadTry) × (o ≡ acquireRead)
-    × OnRc (compareExchange eqb (r .seen .0) (r .seen .0 + 1)) (exchanged got (L .rc .0)) L M × IsBit got
-    × (s ≡ plain (r .at) (cond (eqb got 1) ReadCheck Idle))
+    × OnRc (compareExchange eqb (r .seen .0) (r .seen .0 + 1)) (old got) L M × (got ≡ r .seen .0)
+    × (s ≡ plain (r .at) ReadCheck)
     × Rest L M
 
 abbrev pub Code2 : Type 0
-Code2 = AtCode triesRc Does2
+Code2 = AtCode exchangesRc Does2
 
 abbrev pub Does3 : TableRow
 Does3 i L r o v M s got =
@@ -134,17 +132,17 @@ Does6 i L r o v M s got =
 abbrev pub Code6 : Type 0
 Code6 = AtCode releasesRc Does6
 
--- the first step of into_inner makes the thread the mover, done or failed
+-- the exchange is done: the flag was found down. The first step of into_inner makes the thread the mover
 abbrev pub Does7 : TableRow
 Does7 i L r o v M s got =
     (r .place ≡ Idle) × ((o ≡ acquireWrite) ⊎ (o ≡ intoInner))
-    × OnExc (compareExchange Bool·beq false true) (exchanged got (L .exc)) L M × IsBit got
-    × (s ≡ plain (r .at) (cond (eqb got 1) WriteWait Idle))
+    × OnExc (compareExchange Bool·beq false true) (old (eqb got 1)) L M × (got ≡ 0)
+    × (s ≡ plain (r .at) WriteWait)
     × (M .mover ≡ cond (eqb o intoInner) (By i) (L .mover)) × (M .finished ≡ L .finished)
     × SameDrops L M
 
 abbrev pub Code7 : Type 0
-Code7 = AtCode triesExc Does7
+Code7 = AtCode exchangesExc Does7
 
 abbrev pub Does8 : TableRow
 Does8 i L r o v M s got =
@@ -200,18 +198,71 @@ Does12 i L r o v M s got =
 abbrev pub Code12 : Type 0
 Code12 = AtCode dropsHandle Does12
 
--- got is 1 or 0 for an exchange and for a load of the flag
+-- the exchange of the count failed: another than the one seen was found. The thread is Idle again, and the lock stays
+abbrev pub Does13 : TableRow
+Does13 i L r o v M s got =
+    (r .place ≡ ReadTry) × (o ≡ acquireRead)
+    × OnRc (compareExchange eqb (r .seen .0) (r .seen .0 + 1)) (failed got) L M × (got ≢ r .seen .0)
+    × (s ≡ plain (r .at) Idle)
+    × Rest L M
+
+abbrev pub Code13 : Type 0
+Code13 = AtCode failsRc Does13
+
+-- the exchange of the flag failed: it was found up. The first step of into_inner makes the thread the mover all the same
+abbrev pub Does14 : TableRow
+Does14 i L r o v M s got =
+    (r .place ≡ Idle) × ((o ≡ acquireWrite) ⊎ (o ≡ intoInner))
+    × OnExc (compareExchange Bool·beq false true) (failed (eqb got 1)) L M × (got ≡ 1)
+    × (s ≡ plain (r .at) Idle)
+    × (M .mover ≡ cond (eqb o intoInner) (By i) (L .mover)) × (M .finished ≡ L .finished)
+    × SameDrops L M
+
+abbrev pub Code14 : Type 0
+Code14 = AtCode failsExc Does14
+
+-- ---- what an exchange returned, as its row tells it
+-- The source's compare_exchange returns Ok(found) or Err(found): `old` and `failed` in `atomic`. The code tells the arm, and got what was
+-- found.
+abbrev pub returnedRc : Row → Reply ℕ
+returnedRc row = cond (eqb (row .access) exchangesRc) (old (row .got)) (failed (row .got))
+
+abbrev pub returnedExc : Row → Reply Bool
+returnedExc row = cond (eqb (row .access) exchangesExc) (old (eqb (row .got) 1)) (failed (eqb (row .got) 1))
+
+-- the row of an exchange of the count, and of the flag, that the record r makes on the lock L
+abbrev pub TellsRc : Lock → Rec → Row → Type 0
+TellsRc L r row =
+    ((row .access ≡ exchangesRc) ⊎ (row .access ≡ failsRc))
+    × (returnedRc row ≡ compareExchange eqb (r .seen .0) (r .seen .0 + 1) (L .rc .0) .answers)
+
+abbrev pub TellsExc : Lock → Row → Type 0
+TellsExc L row = ((row .access ≡ exchangesExc) ⊎ (row .access ≡ failsExc)) × (returnedExc row ≡ compareExchange Bool·beq false true (L .exc) .answers)
+
+-- an accepted entry where the source makes an exchange; o is the thread's operation
+abbrev pub TellsExchange : Lock → Rec → ℕ → Row → Type 0
+TellsExchange L r o row =
+    (r .place ≡ ReadTry → TellsRc L r row) × (r .place ≡ Idle → (o ≡ acquireWrite) ⊎ (o ≡ intoInner) → TellsExc L row)
+
+-- from every state. That only such an entry has one of these codes is Code2, Code7, Code13 and Code14.
+abbrev pub ExchangeTold : Type 0
+ExchangeTold =
+    (S : Scripts) (L : Lock) (l : List Rec) (i : ℕ) → entryRefusal S L l i ≡ 0
+    → TellsExchange L (here l i) (opOf S l i) (step S L l i .row)
+
+-- ---- what every row has
+-- got is 1 or 0 for a load and an exchange of the flag
 abbrev pub OneOrNought : Type 0
 OneOrNought =
     (S : Scripts) (L : Lock) (l : List Rec) (i : ℕ)
     → let row = step S L l i .row in
-    (eqb (row .access) triesRc || (eqb (row .access) loadsExc || eqb (row .access) triesExc)) ≡ true → IsBit (row .got)
+    (eqb (row .access) loadsExc || (eqb (row .access) exchangesExc || eqb (row .access) failsExc)) ≡ true → IsBit (row .got)
 
--- an accepted row has one of the twelve codes
-abbrev pub OneOfTwelve : Type 0
-OneOfTwelve =
+-- an accepted row has one of the fourteen codes
+abbrev pub OneOfFourteen : Type 0
+OneOfFourteen =
     (S : Scripts) (L : Lock) (l : List Rec) (i : ℕ) → entryRefusal S L l i ≡ 0
-    → (1 ≤ step S L l i .row .access) × (step S L l i .row .access ≤ dropsHandle)
+    → (1 ≤ step S L l i .row .access) × (step S L l i .row .access ≤ failsExc)
 
 -- what a borrow and a take got is permitted
 abbrev pub GotPermitted : Type 0

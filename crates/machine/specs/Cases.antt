@@ -34,7 +34,7 @@ abbrev scriptA : Lent
 scriptA = lists (3 ∷ []) (1 ∷ 2 ∷ 3 ∷ []) (0 ∷ 0 ∷ 0 ∷ [])
 
 abbrev rowsA : List Row
-rowsA = row 0 1 0 0 0 0 ∷ row 0 2 0 1 0 1 ∷ row 0 3 0 0 0 1 ∷ row 0 5 0 5 0 1 ∷ row 0 6 0 1 0 0 ∷ row 0 0 12 0 0 0 ∷ []
+rowsA = row 0 1 0 0 0 0 ∷ row 0 2 0 0 0 1 ∷ row 0 3 0 0 0 1 ∷ row 0 5 0 5 0 1 ∷ row 0 6 0 1 0 0 ∷ row 0 0 12 0 0 0 ∷ []
 
 abbrev pub CaseA : Type 0
 CaseA =
@@ -51,7 +51,7 @@ abbrev readers : Lent
 readers = lists (2 ∷ 2 ∷ []) (1 ∷ 3 ∷ 1 ∷ 3 ∷ []) (0 ∷ 0 ∷ 0 ∷ 0 ∷ [])
 
 abbrev rowsHeld : List Row
-rowsHeld = row 0 1 0 0 0 0 ∷ row 0 2 0 1 0 1 ∷ row 0 3 0 0 0 1 ∷ []
+rowsHeld = row 0 1 0 0 0 0 ∷ row 0 2 0 0 0 1 ∷ row 0 3 0 0 0 1 ∷ []
 
 -- M is 1 and one reader holds: the other's load gets 1, it stays Idle, and no exchange is made
 abbrev pub CaseB : Type 0
@@ -69,39 +69,39 @@ CaseC =
 abbrev pub CaseD : Type 0
 CaseD =
     let w = from readers 2 Any 5 (1 ∷ 0 ∷ 0 ∷ 0 ∷ 0 ∷ 1 ∷ []) in
-    (w .rows ≡ row 1 1 0 0 0 0 ∷ (rowsHeld ++ (row 0 6 0 1 0 0 ∷ row 1 2 0 1 0 1 ∷ []))) × (w .recs ≡ plain 2 Idle ∷ plain 0 ReadCheck ∷ [])
+    (w .rows ≡ row 1 1 0 0 0 0 ∷ (rowsHeld ++ (row 0 6 0 1 0 0 ∷ row 1 2 0 0 0 1 ∷ []))) × (w .recs ≡ plain 2 Idle ∷ plain 0 ReadCheck ∷ [])
 
 -- without the release it fails
 abbrev pub CaseE : Type 0
 CaseE =
     let w = from readers 2 Any 5 (1 ∷ 0 ∷ 0 ∷ 0 ∷ 1 ∷ []) in
-    (w .rows ≡ row 1 1 0 0 0 0 ∷ (rowsHeld ++ (row 1 2 0 0 0 1 ∷ []))) × (w .recs ≡ plain 1 Reading ∷ unbegun ∷ [])
+    (w .rows ≡ row 1 1 0 0 0 0 ∷ (rowsHeld ++ (row 1 13 0 1 0 1 ∷ []))) × (w .recs ≡ plain 1 Reading ∷ unbegun ∷ [])
 
 -- ---- F and G: the flag is up
 -- while a reader is at ReadCheck: code 3 gets 1, code 4 follows
 abbrev pub CaseF : Type 0
 CaseF =
     from (lists (2 ∷ 2 ∷ []) (1 ∷ 3 ∷ 4 ∷ 5 ∷ []) (0 ∷ 0 ∷ 0 ∷ 13 ∷ [])) 2 Any 5 (0 ∷ 0 ∷ 1 ∷ 0 ∷ 0 ∷ []) .rows
-    ≡ row 0 1 0 0 0 0 ∷ row 0 2 0 1 0 1 ∷ row 1 7 0 1 1 1 ∷ row 0 3 0 1 1 1 ∷ row 0 4 0 1 1 0 ∷ []
+    ≡ row 0 1 0 0 0 0 ∷ row 0 2 0 0 0 1 ∷ row 1 7 0 0 1 1 ∷ row 0 3 0 1 1 1 ∷ row 0 4 0 1 1 0 ∷ []
 
 -- a writer after put, before store: a reader still gets 1
 abbrev pub CaseG : Type 0
 CaseG =
     from (lists (2 ∷ 2 ∷ []) (4 ∷ 5 ∷ 1 ∷ 3 ∷ []) (0 ∷ 13 ∷ 0 ∷ 0 ∷ [])) 2 Any 5 (0 ∷ 0 ∷ 0 ∷ 0 ∷ 1 ∷ 1 ∷ 1 ∷ []) .rows
-    ≡ row 0 7 0 1 1 0 ∷ row 0 8 0 0 1 0 ∷ row 0 9 0 5 1 0 ∷ row 0 10 0 13 1 0 ∷ row 1 1 0 0 1 0 ∷ row 1 2 0 1 1 1 ∷ row 1 3 0 1 1 1 ∷ []
+    ≡ row 0 7 0 0 1 0 ∷ row 0 8 0 0 1 0 ∷ row 0 9 0 5 1 0 ∷ row 0 10 0 13 1 0 ∷ row 1 1 0 0 1 0 ∷ row 1 2 0 0 1 1 ∷ row 1 3 0 1 1 1 ∷ []
 
 -- ---- H and I: into_inner
 -- after a dropped read the flag goes up, and code 8 gets 1 each time
 abbrev pub CaseH : Type 0
 CaseH =
     from (lists (2 ∷ 1 ∷ []) (1 ∷ 6 ∷ 7 ∷ []) (0 ∷ 0 ∷ 0 ∷ [])) 3 Any 5 (0 ∷ 0 ∷ 0 ∷ 0 ∷ 1 ∷ 1 ∷ 1 ∷ []) .rows
-    ≡ rowsHeld ++ (row 0 12 0 0 0 1 ∷ row 1 7 0 1 1 1 ∷ row 1 8 0 1 1 1 ∷ row 1 8 0 1 1 1 ∷ [])
+    ≡ rowsHeld ++ (row 0 12 0 0 0 1 ∷ row 1 7 0 0 1 1 ∷ row 1 8 0 1 1 1 ∷ row 1 8 0 1 1 1 ∷ [])
 
 -- with nothing dropped and all Idle it takes on its third step, and the lock is finished, with no mover
 abbrev pub CaseI : Type 0
 CaseI =
     let w = from (lists (1 ∷ 0 ∷ []) (7 ∷ []) (0 ∷ [])) 3 Any 5 (0 ∷ 0 ∷ 0 ∷ []) in
-    (w .rows ≡ row 0 7 0 1 1 0 ∷ row 0 8 0 0 1 0 ∷ row 0 9 0 5 1 0 ∷ [])
+    (w .rows ≡ row 0 7 0 0 1 0 ∷ row 0 8 0 0 1 0 ∷ row 0 9 0 5 1 0 ∷ [])
     × (w .recs ≡ plain 1 Idle ∷ unbegun ∷ [])
     × (w .lock
     ≡ record { exc = true; rc = count 0; cell = Empty; pred = Any; top = count 3; reads = count 0; writes = count 0; mover = Nobody; finished = true })
@@ -110,7 +110,7 @@ CaseI =
 abbrev pub CaseK : Type 0
 CaseK =
     let w = from (lists (2 ∷ []) (4 ∷ 5 ∷ []) (0 ∷ 7 ∷ [])) 3 (Either 5 13) 5 (0 ∷ 0 ∷ 0 ∷ 0 ∷ 0 ∷ []) in
-    (w .rows ≡ row 0 7 0 1 1 0 ∷ row 0 8 0 0 1 0 ∷ row 0 9 0 5 1 0 ∷ row 0 0 16 0 1 0 ∷ row 0 0 16 0 1 0 ∷ []) × (w .recs ≡ recAt 1 Writing 0 5 ∷ [])
+    (w .rows ≡ row 0 7 0 0 1 0 ∷ row 0 8 0 0 1 0 ∷ row 0 9 0 5 1 0 ∷ row 0 0 16 0 1 0 ∷ row 0 0 16 0 1 0 ∷ []) × (w .recs ≡ recAt 1 Writing 0 5 ∷ [])
 
 -- ---- L: two readers and a writer, M is 2
 abbrev pub starving : Lent

@@ -6,7 +6,7 @@ use mathlib.Core.Bool.{true, false}
 use mathlib.Core.List.{List, [], _∷_}
 use lib.ListN.{length, set}
 use Rattle.cell.specs.Value.{kept, isFull}
-use Rattle.machine.specs.Names.{intoInner, triesExc, waitsRc, takesCell}
+use Rattle.machine.specs.Names.{intoInner, exchangesExc, waitsRc, takesCell}
 use Rattle.machine.specs.Words.{mayGo, next}
 use Rattle.machine.specs.Step.{Scripts, busy, here, opOf}
 use Rattle.machine.specs.Sound.{Sound}
@@ -58,7 +58,7 @@ IntoInnerEnds =
     (S : Scripts) (L : Lock) (l : List Rec) (i : ℕ) → Sound S L l → L .reads .0 ≡ 0 → L .writes .0 ≡ 0 → L .finished ≡ false → busy l ≡ 0
     → i < length l → here l i .at < S .len i → opOf S l i ≡ intoInner → mayGo (L .mover) i ≡ true
     → let w = run S L l (i ∷ i ∷ i ∷ []) in
-    (w .rows ≡ rowAs i triesExc 1 ∷ rowAs i waitsRc 0 ∷ rowAs i takesCell (kept (L .cell)) ∷ [])
+    (w .rows ≡ rowAs i exchangesExc 0 ∷ rowAs i waitsRc 0 ∷ rowAs i takesCell (kept (L .cell)) ∷ [])
     × (w .lock .finished ≡ true)
     × (w .recs ≡ set l i (next (here l i) Idle))
 

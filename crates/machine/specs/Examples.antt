@@ -7,7 +7,7 @@ use mathlib.Core.List.{List, [], _∷_}
 use lib.ListN.{length, getD}
 use Rattle.cell.specs.declared.pred.Pred.{Pred}
 use Rattle.cell.specs.declared.pred.Pred.the-variants.{Either, Parity}
-use Rattle.machine.specs.Names.{acquireRead, borrows, releaseRead, acquireWrite, releaseWrite, loadsRc, triesRc, loadsExc, borrowsCell, releasesRc, triesExc, waitsRc, takesCell, putsCell, storesExc, firstValue}
+use Rattle.machine.specs.Names.{acquireRead, borrows, releaseRead, acquireWrite, releaseWrite, loadsRc, exchangesRc, loadsExc, borrowsCell, releasesRc, exchangesExc, waitsRc, takesCell, putsCell, storesExc, firstValue}
 use Rattle.machine.specs.Words.{plain, unused, withRc}
 use Rattle.machine.specs.Lists.{Lent, lists, scriptsOf, beside}
 use Rattle.machine.specs.Setup.{fresh, setup}
@@ -50,16 +50,16 @@ schedule1 = 0 ∷ 0 ∷ 0 ∷ 0 ∷ 0 ∷ 0 ∷ 0 ∷ 0 ∷ 1 ∷ 1 ∷ 1 ∷ 0 
 
 abbrev rows1 : List Row
 rows1 =
-    row 0 triesExc 1 1 0
+    row 0 exchangesExc 0 1 0
     ∷ row 0 waitsRc 0 1 0
     ∷ row 0 takesCell 5 1 0
     ∷ row 0 putsCell 13 1 0
     ∷ row 0 storesExc 0 0 0
     ∷ row 0 loadsRc 0 0 0
-    ∷ row 0 triesRc 1 0 1
+    ∷ row 0 exchangesRc 0 0 1
     ∷ row 0 loadsExc 0 0 1
     ∷ row 1 loadsRc 1 0 1
-    ∷ row 1 triesRc 1 0 2
+    ∷ row 1 exchangesRc 1 0 2
     ∷ row 1 loadsExc 0 0 2
     ∷ row 0 borrowsCell 13 0 2
     ∷ row 1 borrowsCell 13 0 2
@@ -91,7 +91,7 @@ schedule2 = 0 ∷ 0 ∷ 0 ∷ 0 ∷ []
 
 -- the lock that holds v, read
 abbrev rows2 : ℕ → List Row
-rows2 v = row 0 loadsRc 0 0 0 ∷ row 0 triesRc 1 0 1 ∷ row 0 loadsExc 0 0 1 ∷ row 0 borrowsCell v 0 1 ∷ []
+rows2 v = row 0 loadsRc 0 0 0 ∷ row 0 exchangesRc 0 0 1 ∷ row 0 loadsExc 0 0 1 ∷ row 0 borrowsCell v 0 1 ∷ []
 
 -- a lock for the numbers with the rest k by 2, made with v, and not made with u
 abbrev ParityLock : ℕ → ℕ → ℕ → Type 0

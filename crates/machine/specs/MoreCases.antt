@@ -1,5 +1,5 @@
 -- More cases beside A to L: into_inner after a dropped write, drops, many readers, the order of a drain, an exchange above 1, the
--- value taken, the bound of a drain. Locks, records and rows are written out.
+-- value taken, the bound of a drain, what a failed exchange found. Locks, records and rows are written out.
 use Prim.Native.Nat.{ℕ, _^_, _-_}
 use mathlib.Core.Path.{_≡_}
 use mathlib.Core.Bool.{true, false}
@@ -16,7 +16,7 @@ use Rattle.machine.specs.Cases.{starving, lockL, recsL}
 use Rattle.machine.specs.declared.Lock.{Lock}
 use Rattle.machine.specs.declared.Row.{Row}
 use Rattle.machine.specs.declared.Mover.the-variants.{Nobody, By}
-use Rattle.machine.specs.declared.Place.the-variants.{Idle, ReadTry, ReadCheck, Reading, Writing, WritePut}
+use Rattle.machine.specs.declared.Place.the-variants.{Idle, ReadTry, ReadCheck, Reading, WriteWait, Writing, WritePut}
 
 abbrev row : ℕ → ℕ → ℕ → ℕ → ℕ → ℕ → Row
 row thread access answer got exc rc = record { thread = thread; access = access; answer = answer; got = got; exc = exc; rc = rc }
@@ -33,13 +33,13 @@ abbrev pub FailedInto : Type 0
 FailedInto =
     let w = run (scriptsOf afterDrop) (counting 3 0) (replicate 3 idle) (0 ∷ 0 ∷ 0 ∷ 0 ∷ 1 ∷ 2 ∷ 1 ∷ []) in
     (w .rows
-    ≡ row 0 7 0 1 1 0
+    ≡ row 0 7 0 0 1 0
     ∷ row 0 8 0 0 1 0
     ∷ row 0 9 0 5 1 0
     ∷ row 0 12 0 0 1 0
-    ∷ row 1 7 0 0 1 0
+    ∷ row 1 14 0 1 1 0
     ∷ row 2 0 13 0 1 0
-    ∷ row 1 7 0 0 1 0
+    ∷ row 1 14 0 1 1 0
     ∷ [])
     × (w .lock ≡ lockOf Any 3 true 0 Empty 0 1 (By 1) false)
     × (w .recs ≡ recOf 2 Idle 0 0 ∷ idle ∷ idle ∷ [])
@@ -48,14 +48,14 @@ FailedInto =
 abbrev pub DroppedRead : Type 0
 DroppedRead =
     let w = run (scriptsOf (alone (1 ∷ 6 ∷ []))) (counting 3 0) (idle ∷ []) (0 ∷ 0 ∷ 0 ∷ 0 ∷ []) in
-    (w .rows ≡ row 0 1 0 0 0 0 ∷ row 0 2 0 1 0 1 ∷ row 0 3 0 0 0 1 ∷ row 0 12 0 0 0 1 ∷ [])
+    (w .rows ≡ row 0 1 0 0 0 0 ∷ row 0 2 0 0 0 1 ∷ row 0 3 0 0 0 1 ∷ row 0 12 0 0 0 1 ∷ [])
     × (w .lock ≡ lockOf Any 3 false 1 (Full 5) 1 0 Nobody false)
     × (w .recs ≡ recOf 2 Idle 0 0 ∷ [])
 
 abbrev pub DroppedWrite : Type 0
 DroppedWrite =
     let w = run (scriptsOf (alone (4 ∷ 6 ∷ []))) (counting 3 0) (idle ∷ []) (0 ∷ 0 ∷ 0 ∷ 0 ∷ []) in
-    (w .rows ≡ row 0 7 0 1 1 0 ∷ row 0 8 0 0 1 0 ∷ row 0 9 0 5 1 0 ∷ row 0 12 0 0 1 0 ∷ [])
+    (w .rows ≡ row 0 7 0 0 1 0 ∷ row 0 8 0 0 1 0 ∷ row 0 9 0 5 1 0 ∷ row 0 12 0 0 1 0 ∷ [])
     × (w .lock ≡ lockOf Any 3 true 0 Empty 0 1 Nobody false)
     × (w .recs ≡ recOf 2 Idle 0 0 ∷ [])
 
@@ -67,19 +67,19 @@ FiveReaders =
     let w = run (scriptsOf five) (counting (2 ^ 64 - 1) 0) (replicate 5 idle) schedule in
     (w .rows
     ≡ row 0 1 0 0 0 0
-    ∷ row 0 2 0 1 0 1
+    ∷ row 0 2 0 0 0 1
     ∷ row 0 3 0 0 0 1
     ∷ row 1 1 0 1 0 1
     ∷ row 1 2 0 1 0 2
     ∷ row 1 3 0 0 0 2
     ∷ row 2 1 0 2 0 2
-    ∷ row 2 2 0 1 0 3
+    ∷ row 2 2 0 2 0 3
     ∷ row 2 3 0 0 0 3
     ∷ row 3 1 0 3 0 3
-    ∷ row 3 2 0 1 0 4
+    ∷ row 3 2 0 3 0 4
     ∷ row 3 3 0 0 0 4
     ∷ row 4 1 0 4 0 4
-    ∷ row 4 2 0 1 0 5
+    ∷ row 4 2 0 4 0 5
     ∷ row 4 3 0 0 0 5
     ∷ [])
     × (w .lock ≡ counting (2 ^ 64 - 1) 5)
@@ -98,7 +98,7 @@ SeenTwo =
     let b = run (scriptsOf three) (a .lock) (a .recs) (2 ∷ []) in
     (a .lock ≡ counting 3 2)
     × (a .recs ≡ holding ∷ holding ∷ recOf 0 ReadTry 2 0 ∷ [])
-    × (b .rows ≡ row 2 2 0 1 0 3 ∷ [])
+    × (b .rows ≡ row 2 2 0 2 0 3 ∷ [])
     × (b .lock ≡ counting 3 3)
     × (b .recs ≡ holding ∷ holding ∷ recOf 0 ReadCheck 0 0 ∷ [])
 
@@ -109,7 +109,7 @@ TakenFive =
     let a = run (scriptsOf writers) (lockOf (Either 5 13) 3 false 0 (Full 13) 0 0 Nobody false) (idle ∷ idle ∷ []) (0 ∷ 0 ∷ 0 ∷ []) in
     let b = run (scriptsOf writers) (a .lock) (a .recs) (0 ∷ 0 ∷ 1 ∷ 1 ∷ 1 ∷ []) in
     (a .recs ≡ recOf 1 Writing 0 13 ∷ idle ∷ [])
-    × (b .rows ≡ row 0 10 0 5 1 0 ∷ row 0 11 0 0 0 0 ∷ row 1 7 0 1 1 0 ∷ row 1 8 0 0 1 0 ∷ row 1 9 0 5 1 0 ∷ [])
+    × (b .rows ≡ row 0 10 0 5 1 0 ∷ row 0 11 0 0 0 0 ∷ row 1 7 0 0 1 0 ∷ row 1 8 0 0 1 0 ∷ row 1 9 0 5 1 0 ∷ [])
     × (b .lock ≡ lockOf (Either 5 13) 3 true 0 Empty 0 0 Nobody false)
     × (b .recs ≡ recOf 2 Idle 0 0 ∷ recOf 1 Writing 0 5 ∷ [])
 
@@ -121,5 +121,28 @@ Bounds =
     × (bound (scriptsOf (alone (4 ∷ 5 ∷ []))) (recOf 1 WritePut 0 0 ∷ []) ≡ 5)
     × (bound (scriptsOf (two [] (1 ∷ 3 ∷ []))) (idle ∷ recOf 2 Idle 0 0 ∷ []) ≡ 6)
 
+-- ---- h: what a failed exchange found. A reader saw 1, another gave its handle back: it finds 0, less than it saw, and is Idle again
+abbrev pub FoundLess : Type 0
+FoundLess =
+    let w = run (scriptsOf (two (1 ∷ 3 ∷ []) (1 ∷ 3 ∷ []))) (counting 3 0) (idle ∷ idle ∷ []) (0 ∷ 0 ∷ 0 ∷ 1 ∷ 0 ∷ 1 ∷ []) in
+    (w .rows
+    ≡ row 0 1 0 0 0 0
+    ∷ row 0 2 0 0 0 1
+    ∷ row 0 3 0 0 0 1
+    ∷ row 1 1 0 1 0 1
+    ∷ row 0 6 0 1 0 0
+    ∷ row 1 13 0 0 0 0
+    ∷ [])
+    × (w .lock ≡ counting 3 0)
+    × (w .recs ≡ recOf 2 Idle 0 0 ∷ idle ∷ [])
+
+-- a writer finds the flag up, stays Idle, and is no mover
+abbrev pub FoundUp : Type 0
+FoundUp =
+    let w = run (scriptsOf (two (4 ∷ []) (4 ∷ []))) (counting 3 0) (idle ∷ idle ∷ []) (0 ∷ 1 ∷ []) in
+    (w .rows ≡ row 0 7 0 0 1 0 ∷ row 1 14 0 1 1 0 ∷ [])
+    × (w .lock ≡ lockOf Any 3 true 0 (Full 5) 0 0 Nobody false)
+    × (w .recs ≡ recOf 0 WriteWait 0 0 ∷ idle ∷ [])
+
 abbrev pub MoreCases : Type 0
-MoreCases = FailedInto × DroppedRead × DroppedWrite × FiveReaders × DrainOfL × SeenTwo × TakenFive × Bounds
+MoreCases = FailedInto × DroppedRead × DroppedWrite × FiveReaders × DrainOfL × SeenTwo × TakenFive × Bounds × FoundLess × FoundUp

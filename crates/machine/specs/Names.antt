@@ -31,8 +31,9 @@ noAccess = 0
 abbrev pub loadsRc : ℕ
 loadsRc = 1
 
-abbrev pub triesRc : ℕ
-triesRc = 2
+-- an exchange that is done; one that failed is 13 or 14
+abbrev pub exchangesRc : ℕ
+exchangesRc = 2
 
 abbrev pub loadsExc : ℕ
 loadsExc = 3
@@ -46,8 +47,8 @@ borrowsCell = 5
 abbrev pub releasesRc : ℕ
 releasesRc = 6
 
-abbrev pub triesExc : ℕ
-triesExc = 7
+abbrev pub exchangesExc : ℕ
+exchangesExc = 7
 
 abbrev pub waitsRc : ℕ
 waitsRc = 8
@@ -63,6 +64,12 @@ storesExc = 11
 
 abbrev pub dropsHandle : ℕ
 dropsHandle = 12
+
+abbrev pub failsRc : ℕ
+failsRc = 13
+
+abbrev pub failsExc : ℕ
+failsExc = 14
 
 -- ---- refusals
 abbrev pub threadCount : ℕ

@@ -8,7 +8,7 @@ use lib.ListN.{length, getD, set}
 use Rattle.cell.specs.declared.value.Content.the-variants.{Empty, Full}
 use Rattle.cell.specs.Value.{kept}
 use Rattle.cell.specs.Pred.{permits}
-use Rattle.machine.specs.Names.{acquireRead, borrows, releaseRead, acquireWrite, releaseWrite, dropHandle, intoInner, noAccess, loadsRc, triesRc, loadsExc, givesBack, borrowsCell, releasesRc, triesExc, waitsRc, takesCell, putsCell, storesExc, dropsHandle, noThread, scriptFinished, lockGone, doesNotFit, othersBusy, notPermitted}
+use Rattle.machine.specs.Names.{acquireRead, borrows, releaseRead, acquireWrite, releaseWrite, dropHandle, intoInner, noAccess, loadsRc, exchangesRc, loadsExc, givesBack, borrowsCell, releasesRc, exchangesExc, waitsRc, takesCell, putsCell, storesExc, dropsHandle, failsRc, failsExc, noThread, scriptFinished, lockGone, doesNotFit, othersBusy, notPermitted}
 use Rattle.machine.specs.Words.{bit, is, mayGo, begun, recAt, goes, next, unbegun, withExc, withRc, withCell, withMover, withReads, withWrites, withEnd}
 use Rattle.machine.specs.Refusals.{Check, gives, lowest}
 use Rattle.machine.specs.declared.Lock.{Lock}
@@ -44,11 +44,12 @@ loadFull L r = does L (goes r Idle) loadsRc (L .rc .0)
 abbrev pub unmoved : Lock → Rec → Bool
 unmoved L r = eqb (L .rc .0) (r .seen .0)
 
+-- an exchange gets the value found, done or lost
 abbrev pub tryDone : Lock → Rec → Did
-tryDone L r = does (withRc L (r .seen .0 + 1)) (goes r ReadCheck) triesRc 1
+tryDone L r = does (withRc L (r .seen .0 + 1)) (goes r ReadCheck) exchangesRc (L .rc .0)
 
 abbrev pub tryLost : Lock → Rec → Did
-tryLost L r = does L (goes r Idle) triesRc 0
+tryLost L r = does L (goes r Idle) failsRc (L .rc .0)
 
 abbrev pub checkClear : Lock → Rec → Did
 checkClear L r = does L (next r Reading) loadsExc 0
@@ -66,10 +67,10 @@ abbrev pub released : Lock → Rec → Did
 released L r = does (withRc L (L .rc .0 - 1)) (next r Idle) releasesRc (L .rc .0)
 
 abbrev pub excDone : Lock → Rec → Did
-excDone L r = does (withExc L true) (goes r WriteWait) triesExc 1
+excDone L r = does (withExc L true) (goes r WriteWait) exchangesExc 0
 
 abbrev pub excLost : Lock → Rec → Did
-excLost L r = does L (goes r Idle) triesExc 0
+excLost L r = does L (goes r Idle) failsExc 1
 
 -- the first step of into_inner, done or lost, makes its thread the mover
 abbrev pub claimed : Lock → ℕ → Lock

@@ -10,7 +10,7 @@ use Rattle.cell.specs.declared.pred.Pred.{Pred}
 use Rattle.toks.specs.Multiset.{Multiset}
 use Rattle.toks.specs.Toks.{empty, holds, Toks, initializeFull, acquireReadStart, acquireReadEnd, acquireReadAbandon, acquireExcStart, acquireExcEnd, releaseExc, releaseShared, Transition}
 use Rattle.toks.specs.Invariants.{Holds}
-use Rattle.machine.specs.Names.{triesRc, loadsExc, givesBack, releasesRc, triesExc, waitsRc, storesExc}
+use Rattle.machine.specs.Names.{exchangesRc, loadsExc, givesBack, releasesRc, exchangesExc, waitsRc, storesExc}
 use Rattle.machine.specs.Words.{unused}
 use Rattle.machine.specs.Setup.{fresh}
 use Rattle.machine.specs.Step.{Scripts, step}
@@ -49,21 +49,22 @@ Inv q x = permits q x ≡ true
 -- the rows that move tokens
 abbrev pub movesTokens : ℕ → ℕ → Bool
 movesTokens access got =
-    (eqb access triesRc && eqb got 1)
+    eqb access exchangesRc
     || ((eqb access loadsExc && eqb got 0)
     || (eqb access givesBack
-    || ((eqb access triesExc && eqb got 1)
+    || (eqb access exchangesExc
     || ((eqb access waitsRc && eqb got 0)
     || (eqb access storesExc
     || eqb access releasesRc)))))
 
--- what the row makes of the tokens: code 2 done, 3 seeing false, 4, 7 done, 8 seeing 0, 11 and 6; every other row leaves them
+-- what the row makes of the tokens: code 2, 3 seeing false, 4, 7, 8 seeing 0, 11 and 6; every other row leaves them, a failed exchange
+-- (13 and 14) too
 abbrev pub named : ℕ → ℕ → ℕ → Toks Pred → Toks Pred
 named access got x s =
-    cond (eqb access triesRc && eqb got 1) (acquireReadStart s)
+    cond (eqb access exchangesRc) (acquireReadStart s)
     (cond (eqb access loadsExc && eqb got 0) (acquireReadEnd s)
     (cond (eqb access givesBack) (acquireReadAbandon s)
-    (cond (eqb access triesExc && eqb got 1) (acquireExcStart s)
+    (cond (eqb access exchangesExc) (acquireExcStart s)
     (cond (eqb access waitsRc && eqb got 0) (acquireExcEnd s)
     (cond (eqb access storesExc) (releaseExc x s)
     (cond (eqb access releasesRc) (releaseShared x s)
@@ -78,10 +79,10 @@ TokensNamed =
 
 -- the access code that is named for each transition of RwLockToks
 abbrev pub codeOf : {s t : Toks Pred} → Transition Inv s t → ℕ
-codeOf Transition.acquire-read-start = triesRc
+codeOf Transition.acquire-read-start = exchangesRc
 codeOf (Transition.acquire-read-end clear pending) = loadsExc
 codeOf (Transition.acquire-read-abandon pending) = givesBack
-codeOf (Transition.acquire-exc-start clear) = triesExc
+codeOf (Transition.acquire-exc-start clear) = exchangesExc
 codeOf (Transition.acquire-exc-end zero pending) = waitsRc
 codeOf (Transition.release-exc x permitted writing) = storesExc
 codeOf (Transition.release-shared x reading) = releasesRc

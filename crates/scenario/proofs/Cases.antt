@@ -98,7 +98,7 @@ none-at-the-op = (refl, refl, refl)
 
 runs-as-read : RunsAsRead
 unfolding permits good ofKind lowest act fits sum entryRefusal answer step total find setupRefusal run digitsTo text fields lastField header rowText refusal lines across digits plainly decimal number equal clean split kinds judge taken refusalOf next ended rowsText output readingOf printed
-runs-as-read = (refl, refl, refl, refl, refl)
+runs-as-read = (refl, refl, refl, refl, refl, refl, refl)
 
 pub cases : Cases
 cases = (case-a, no-last-break, no-run-line, no-op-line, rows-stand, wrong-form, two-returns, first-line, longest, wrong-number, wrong-header, wrong-order, bad-later, missing, at-the-pred, none-at-the-pred, at-the-op, too-long, too-long-and-wrong, none-at-the-op, runs-as-read)

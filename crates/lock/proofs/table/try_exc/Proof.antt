@@ -2,7 +2,7 @@
 use mathlib.Core.Path.{ap}
 use mathlib.Core.Bool.{true}
 use borrow.Author.Tests.{not-true, not-false}
-use Rattle.machine.specs.Names.{triesExc}
+use Rattle.machine.specs.Names.{failsExc}
 use Rattle.machine.specs.Words.{goes}
 use Rattle.machine.specs.Step.{does}
 use Rattle.machine.specs.declared.Lock.{Lock}
@@ -26,7 +26,7 @@ returns-2 c =
     let x = b .before .before .raise-flag .ensures in
     let up = not-false (a .lock .exc) (rw x at (b .if1 .left)) in
     simp (c .does2 .ensures, c .before .goes2 .ensures, b .before .with-exc .ensures, x, up)
-    (ap (λ (M : Lock). does M (goes (a .rec) Idle) triesExc 0) (exc-kept (a .lock) true up))
+    (ap (λ (M : Lock). does M (goes (a .rec) Idle) failsExc 1) (exc-kept (a .lock) true up))
 
 pub try-exc-spec : {M : Type 1} → statement M
 try-exc-spec =
