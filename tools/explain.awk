@@ -19,15 +19,15 @@ function tell(n, who, what, flag, count) {
 }
 
 function words() {
-    if (access <= 6) return reader()
-    return (access <= 9 && code == 7 ? "into_inner " : "") writer()
+    if (access <= 6 || access == 13) return reader()
+    return (code == 7 ? "into_inner " : "") writer()
 }
 
 function reader() {
     if (access == 1 && got "" == top) return full()
     if (access == 1) return "looks at the count: " got
-    if (access == 2 && got) return "counts itself: the count is " rc
-    if (access == 2) return "waits: the count has changed since it looked"
+    if (access == 2) return "counts itself: the count was " got " and is " rc
+    if (access == 13) return "waits: saw " seen[thread] ", found " got ": " beaten(seen[thread])
     if (access == 3 && got) return "waits" for_ever(dropped_writes) ": the flag is up, so it must take itself off the count"
     if (access == 3) return "no writer: has a read handle"
     if (access == 4) return "takes itself off the count again: the count is " rc
@@ -36,8 +36,8 @@ function reader() {
 }
 
 function writer() {
-    if (access == 7 && got) return "puts the flag up"
-    if (access == 7) return "waits" for_ever(dropped_writes) ": " (dropped_writes ? "a dropped write handle keeps the flag up" : "the flag is up")
+    if (access == 7) return "puts the flag up: it was down"
+    if (access == 14) return "waits" for_ever(dropped_writes) ": " held()
     if (access == 8 && got == 0) return code == 7 ? "may take the value: the count is 0" : "the count is 0: may take the value"
     if (access == 8) return "waits" for_ever(dropped_reads) ": the count is " got (dropped_reads ? " with a dropped handle in it" : "")
     if (access == 9) return "takes " got (code == 7 ? " for good: the lock is finished" : "")
@@ -45,6 +45,19 @@ function writer() {
     if (access == 11) return "puts the flag down: " cell " is released"
     if (from == "Reading") return "drops its read handle: it stays counted"
     return "drops its write handle: the flag stays up and the value is gone"
+}
+
+# What beat an exchange of the count: in that row it left the number that the thread saw. Words with the longest numbers that there are just
+# fit their column: counts of three digits (a script can drop 32 handles), thread 15 and a row of seven.
+function beaten(saw,    did) {
+    did = left_access[saw] == 2 ? "counted itself" : left_access[saw] == 4 ? "took itself off" : "gave a handle back"
+    return "thread " left_by[saw] " " did " (row " left_row[saw] ")"
+}
+
+# What beat an exchange of the flag. A dropped handle keeps it up, so then the drop is told.
+function held() {
+    if (dropped_writes) return "thread " dropper " dropped its handle (row " drop_row ")"
+    return "the flag is up, put up by thread " flag_by " (row " flag_row ")"
 }
 
 # Nothing takes a dropped read off the count, and nothing takes the flag down after a dropped write.

@@ -47,7 +47,7 @@ function stop(reason) {
     exit 2
 }
 
-# Which access a thread makes at a place with an operation; where there is none, the operation does not fit.
+# Which access a thread makes at a place with an operation, an exchange as if it were done; where there is none, the operation does not fit.
 function ways(list,    part, n, i, word) {
     n = split(list, part, /, */)
     for (i = 1; i <= n; i++) {
@@ -138,20 +138,26 @@ function entry(t) {
     number = at[t] + 1
     code = op[t, at[t]]
     if (answer > 0) return
-    access = ACCESS[from, code]
+    access = makes(ACCESS[from, code], t)
     got = gets(t)
-    if (access <= 6) reads(t)
-    else if (access <= 11) writes(t)
-    else drops(t)
+    if (access <= 6 || access == 13) reads(t)
+    else if (access == 12) drops(t)
+    else writes(t)
 }
 
+# An exchange that fails has a code of its own.
+function makes(way, t) {
+    if (way == 2 && rc != seen[t]) return 13
+    if (way == 7 && exc) return 14
+    return way
+}
+
+# Of an exchange it is what was found, done or not.
 function gets(t) {
-    if (access == 2) return seen[t] == rc ? 1 : 0
-    if (access == 3) return exc
-    if (access == 7) return 1 - exc
+    if (access == 3 || access == 7 || access == 14) return exc
     if (access == 5 || access == 9) return cell
     if (access == 10) return value[t, at[t]]
-    if (access > 10) return 0
+    if (access == 11 || access == 12) return 0
     return rc
 }
 
@@ -160,20 +166,30 @@ function go(t, to, next_one) {
     at[t] += next_one
 }
 
-# After accesses 1 to 6.
+# After accesses 1 to 6 and 13.
 function reads(t) {
     if (access == 1 && got "" != top) { seen[t] = rc; go(t, "ReadTry") }
-    if (access == 2) { rc += got; go(t, got ? "ReadCheck" : "Idle") }
+    if (access == 2) { recount(1); go(t, "ReadCheck") }
     if (access == 3) go(t, got ? "ReadBack" : "Reading", !got)
-    if (access == 4) { rc--; go(t, "Idle") }
+    if (access == 4) { recount(-1); go(t, "Idle") }
     if (access == 5) go(t, "Reading", 1)
-    if (access == 6) { rc--; go(t, "Idle", 1) }
+    if (access == 6) { recount(-1); go(t, "Idle", 1) }
+    if (access == 13) go(t, "Idle")
 }
 
-# After accesses 7 to 11.
+# The count goes up or down by one. Of each number it is kept who made the count leave it last, in which row and by which access. A thread
+# that saw this number and finds another was beaten by that row: just before it the exchange would have been done, and since then no more.
+function recount(by) {
+    left_by[rc] = thread
+    left_row[rc] = $1
+    left_access[rc] = access
+    rc += by
+}
+
+# After accesses 7 to 11 and 14. The first step of into_inner makes its thread the mover, also where it fails.
 function writes(t) {
-    if (access == 7 && code == 7) mover = t
-    if (access == 7) { exc = 1; go(t, got ? "WriteWait" : "Idle") }
+    if (code == 7 && !begun) mover = t
+    if (access == 7) { exc = 1; flag_by = t; flag_row = $1; go(t, "WriteWait") }
     if (access == 8 && got == 0) go(t, "WriteTake")
     if (access == 9 && code == 4) go(t, "Writing", 1)
     if (access == 9 && code == 7) {
@@ -191,6 +207,7 @@ function drops(t) {
     if (dropped_reads + dropped_writes == 0) {
         dropper = t
         drop = number
+        drop_row = $1
     }
     if (from == "Reading") dropped_reads++
     else dropped_writes++
