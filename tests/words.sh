@@ -161,19 +161,58 @@ for awk in $awks; do
         "$(with "$awk" -f tools/rows.awk -f tools/untidy.awk examples/case-k.csv "$room/drained")"
 done
 
+# ends WHAT LINE SCENARIO TRACE: the last line of the trace in words
+ends() {
+    for awk in $awks; do
+        same "$1 ($awk)" "$2" "$(with "$awk" -f tools/rows.awk -f tools/explain.awk "$3" "$4" | tail -n 1)"
+    done
+}
+
 # Rows of six digits stand below the others.
 printf 'kind,a,b,c\r\nlock,3,5,1\r\npred,0,0,0\r\nrun,0,65535,0\r\nrun,0,34466,0\r\n' >"$room/many.csv"
 awk 'BEGIN { for (n = -1; n <= 100000; n++) print n < 0 ? "n,thread,access,answer,got,exc,rc\r" : n ",0,0,12,0,0,0\r" }' >"$room/many.out"
-for awk in $awks; do
-    same "many rows ($awk)" " 100000       0  refused 12: its script is empty                                         down      0" \
-        "$(with "$awk" -f tools/rows.awk -f tools/explain.awk "$room/many.csv" "$room/many.out" | tail -n 1)"
-done
+ends "many rows" " 100000       0  refused 12: its script is empty                                         down      0" "$room/many.csv" "$room/many.out"
 
-# A trace of another scenario is not explained.
-for awk in $awks; do
-    same "another trace ($awk)" "trestlecat: row 0 of the trace is not one of this scenario: give a scenario and its own trace" \
-        "$(with "$awk" -f tools/rows.awk -f tools/explain.awk examples/case-k.csv examples/case-f.out 2>&1 >/dev/null)"
-done
+# What beat an exchange fits its column with the longest numbers: rows of seven digits, thread 15, a count of three, which takes dropped handles.
+# rows: of a trace that has come to row 1000000, from lines without numbers
+rows() {
+    awk 'BEGIN { print "n,thread,access,answer,got,exc,rc\r" } { print 1000000 + k++ "," $0 "\r" }'
+}
+awk 'BEGIN {
+    printf "kind,a,b,c\r\nlock,200,5,16\r\npred,0,0,0\r\n"
+    for (k = 0; k < 128; k++) printf "op,%d,1,0\r\nop,%d,6,0\r\n", k / 32, k / 32
+    printf "op,4,1,0\r\nop,15,1,0\r\nop,15,3,0\r\n"
+}' >"$room/counts.csv"
+{
+    awk 'BEGIN {
+        for (k = 0; k < 128; k++)
+            for (step = 1; step <= 4; step++)
+                print int(k / 32) "," (step < 4 ? step : 12) ",0," (step < 3 ? k : 0) ",0," (step > 1 ? k + 1 : k)
+    }'
+    printf '%s\n' 4,1,0,128,0,128 15,1,0,128,0,128 15,2,0,128,0,129 15,3,0,0,0,129 4,13,0,129,0,129 4,1,0,129,0,129 15,6,0,129,0,128 4,13,0,128,0,128
+} | rows >"$room/counts.out"
+ends "the longest words, of the count" "1000519       4  waits: saw 129, found 128: thread 15 gave a handle back (row 1000518)   down    128" \
+    "$room/counts.csv" "$room/counts.out"
+printf 'kind,a,b,c\r\nlock,1,5,16\r\npred,0,0,0\r\nop,10,7,0\r\nop,15,4,0\r\nop,15,6,0\r\n' >"$room/drop.csv"
+printf '%s\n' 15,7,0,0,1,0 15,8,0,0,1,0 15,9,0,5,1,0 15,12,0,0,1,0 10,14,0,1,1,0 | rows >"$room/drop.out"
+ends "the longest words, of the flag" "1000004      10  into_inner waits for ever: thread 15 dropped its handle (row 1000003)   up        0" \
+    "$room/drop.csv" "$room/drop.out"
+
+# A trace of another scenario is not explained, and none that has 1 where an exchange was done: that is what is found now.
+# other WHAT ROW SCENARIO TRACE
+other() {
+    for awk in $awks; do
+        same "$1 ($awk)" "trestlecat: row $2 of the trace is not one of this scenario: give a scenario and its own trace" \
+            "$(with "$awk" -f tools/rows.awk -f tools/explain.awk "$3" "$4" 2>&1 >/dev/null)"
+    done
+}
+other "another trace" 0 examples/case-k.csv examples/case-f.out
+sed 's/^1,0,2,0,0,0,1/1,0,2,0,1,0,1/' examples/case-a.out >"$room/older.out"
+other "an older trace" 1 examples/case-a.csv "$room/older.out"
+sed 's/^4,1,13,0,1,/4,1,2,0,0,/' examples/case-e.out >"$room/older.out"
+other "an older trace, failed" 4 examples/case-e.csv "$room/older.out"
+sed 's/^1,1,14,0,1,/1,1,7,0,0,/' tests/words/rows-writers.out >"$room/older.out"
+other "an older trace, the flag" 1 tests/words/rows-writers.csv "$room/older.out"
 echo "awks:$awks${lacking:+; not here:$lacking}"
 echo "$passed passed, $failed failed"
 [ "$failed" -eq 0 ]

@@ -1,13 +1,27 @@
-# Whether a trace and its words agree, line by line: number, thread, flag and count, and that the words are those of the row's access. It
-# looks at the rows alone and follows nothing, so it shares no mistake with tools/rows.awk.
+# Whether a trace and its words agree, line by line: number, thread, flag and count, that the words are those of the row's access and stay in
+# their column, and that what is said to have beaten an exchange did so. It looks at the rows alone and follows no scenario, so it shares no
+# mistake with tools/rows.awk.
 # usage: LC_ALL=C awk -f tests/words/agree.awk TRACE WORDS
 BEGIN {
     FS = ","
-    split("looks_at_the_count:|waits counts_itself:|waits: no_writer:|waits takes_itself_off borrows gives_its_read_handle" \
-        " puts_the_flag_up|waits the_count_is_0:|waits|may_take takes puts puts_the_flag_down: drops_its", START, " ")
+    split("looks_at_the_count:|waits counts_itself: no_writer:|waits takes_itself_off borrows gives_its_read_handle" \
+        " puts_the_flag_up: the_count_is_0:|waits|may_take takes puts puts_the_flag_down: drops_its waits:_saw waits", START, " ")
+    DID["counted itself"] = 2
+    DID["took itself off"] = 4
+    DID["gave a handle back"] = 6
 }
 { sub(/\r$/, "") }
-NR == FNR { line[FNR] = $0; lines = FNR; next }
+NR == FNR {
+    line[FNR] = $0
+    lines = FNR
+    # A row stands two lines below its number. That of no access is kept as nobody's.
+    who[FNR - 2] = $4 == "0" ? $2 : ""
+    access[FNR - 2] = $3
+    got[FNR - 2] = $5
+    exc[FNR - 2] = $6
+    rc[FNR - 2] = FNR < 3 ? 0 : $7
+    next
+}
 FNR > lines { bad = 1 }
 FNR > 1 && line[FNR] !~ /^refused/ {
     n = split(line[FNR], f, ",")
@@ -16,13 +30,58 @@ FNR > 1 && line[FNR] !~ /^refused/ {
     text = $0
     sub(/^ *[0-9]+ +[0-9]+  /, "", text)
     sub(/ +(up|down) +[0-9]+$/, "", text)
+    # The words of a refusal may name two values of twenty digits; no others are wider than their column.
+    if (f[4] == 0 && length(text) > 70) bad = 1
     sub(/^into_inner /, "", text)
     start = f[4] ? "refused " f[4] ": [a-z0-9]" : "^(" START[f[3]] ")"
     gsub(/_/, " ", start)
     if (text !~ start || text ~ /  | $|: *$/) bad = 1
     # Of these accesses the words show what was got.
-    if (f[3] ~ /^(5|9|10)$/ && (" " text " ") !~ (" " f[5] " ")) bad = 1
+    if (f[3] ~ /^(2|5|9|10)$/ && (" " text " ") !~ (" " f[5] " ")) bad = 1
+    if (f[3] == 13 && !count_lost(f[1], text) || f[3] == 14 && !flag_lost(f[1], text)) bad = 1
     if (bad) { print "row " line[FNR] ": " $0; exit 1 }
 }
 FNR > 1 && line[FNR] ~ /^refused/ && $0 !~ /^the scenario is refused/ { bad = 1 }
 END { if (bad || FNR != lines) exit 1 }
+
+# The row before n that thread t made last, -1 for none.
+function before(n, t) {
+    for (n--; n >= 0; n--) if (who[n] == t) return n
+    return -1
+}
+
+# 'thread T did this (row N)': sets by, did and row.
+function named(text) {
+    if (text !~ /^thread [0-9]+ [a-z ]+ \(row [0-9]+\)$/) return 0
+    split(text, part, " ")
+    by = part[2]
+    did = text
+    gsub(/^thread [0-9]+ | \(row [0-9]+\)$/, "", did)
+    row = text
+    gsub(/.*\(row |\)$/, "", row)
+    return 1
+}
+
+# 'waits: saw S, found F: ...': the thread's last row loaded S, and F is there now. In the row named, behind that one, the other thread made the
+# count leave S, which it did not come back to.
+function count_lost(n, text,    part, looked, i) {
+    if (split(text, part, ": ") != 3 || !named(part[3])) return 0
+    looked = before(n, who[n])
+    if (part[2] != "saw " got[looked] ", found " got[n] || access[looked] != 1 || got[n] != rc[n]) return 0
+    if (who[row] != by || access[row] != DID[did] || row + 0 <= looked || rc[row - 1] != got[looked]) return 0
+    for (i = row + 0; i <= n; i++) if (rc[i] == got[looked]) return 0
+    return 1
+}
+
+# Either the thread named put the flag up in that row and it stayed up, and it has not dropped its handle; or it took the value and dropped it.
+function flag_lost(n, text,    i) {
+    if (got[n] != 1) return 0
+    if (sub(/^waits: the flag is up, put up by thread /, "thread ", text)) {
+        sub(/ \(/, " did (", text)
+        if (!named(text) || who[row] != by || access[row] != 7 || access[before(n, by)] == 12) return 0
+        for (i = row + 0; i <= n; i++) if (exc[i] != 1) return 0
+        return 1
+    }
+    if (!sub(/^waits for ever: /, "", text) || !named(text)) return 0
+    return did == "dropped its handle" && who[row] == by && access[row] == 12 && access[before(row, by)] == 9
+}
