@@ -1,7 +1,8 @@
 #!/bin/sh
 # Takes scenario files that oracle/scenarios.rs makes, good and damaged ones, and their traces, which the second program prints, and tells them in words
 # with every awk that is here. For each file:
-#   the words must come line by line as the trace does (tests/words/agree.awk); tools/rows.awk compares each row with what it followed
+#   the words must come line by line as the trace does, and what they say has beaten an exchange must have done so (tests/words/agree.awk);
+#   tools/rows.awk compares each row with what it followed
 #   the refusal that tests/words/told.awk tells must be the trace's, and its words must be one line
 #   why it is not tidy must be one line
 #   and all awks must print the same
