@@ -1,10 +1,11 @@
 #!/usr/bin/env python3
-"""Carries a crate, a patch or an edit that was written with the names from before the house over to the names of today.
+"""Carries a crate, a patch or an edit that was written with the names from before the house, or before request (ii), over to the names of today.
 
 usage: docs/landings/00-names.py PATH...   files, or folders with all that is in them; changed in place
 
 It renames the crates of the table in docs/landings/00-house.md, but for blocks and vcd, wherever code or a proof names them, with their folders;
-the answers of a run and of a drain where they are brought in; and the names of refusal 15. The rest of the table, and folders of proofs/ that are
+the answers of a run and of a drain where they are brought in; the names of refusal 15; and those of access codes 2 and 7, which mean an exchange that
+is done since request (ii), so that a test of what such a row got is to be done by hand. The rest of the table, and folders of proofs/ that are
 called as a function was, are to be done by hand. Prose is left alone.
 """
 import os
@@ -61,6 +62,12 @@ ANYWHERE = [
     (r"\bmust_wait\b", "others_are_busy"),
     (r"(?<![\w-])must-wait(?=-spec|\b)", "others-are-busy"),
     (r"(?<![\w-])other-not-idle(?![\w-])", "others-busy"),
+    (r"\btriesRc\b", "exchangesRc"),
+    (r"\btriesExc\b", "exchangesExc"),
+    (r"\bTRIES_RC\b", "EXCHANGES_RC"),
+    (r"\bTRIES_EXC\b", "EXCHANGES_EXC"),
+    (r"\bOneOfTwelve\b", "OneOfFourteen"),
+    (r"(?<![\w-])one-of-twelve(?![\w-])", "one-of-fourteen"),
 ]
 
 
