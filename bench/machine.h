@@ -159,7 +159,7 @@ static uint64_t try_exc(struct lock *l, struct rec *r, uint64_t t, uint64_t op, 
         l->moved = 1;
         l->mover = t;
     }
-    *got = l->exc;
+    *got = (uint64_t)l->exc;
     if (l->exc)
         return FAILS_EXC;
     l->exc = 1;
