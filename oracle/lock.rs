@@ -45,8 +45,8 @@
 // reached states, 7 sound states that no schedule need reach, 8 drain of case L, 9 neighbours where no clause fails, 10 states where more
 // than one clause fails, 11 sums that would wrap, 12 the most threads and the longest scripts (with the longest line, below 5,200 bytes),
 // 13 what stands beside 5 and 7, 14 the entries of the drain order, 100 + i only clause i of `SOUND` fails, 200 + i only clause i of `TIDY`
-// fails, both counted from 0. The last lines, 999, are wrong on purpose, one in each thing that is compared and one that lacks a field: a
-// replay that found them equal would show it.
+// fails, both counted from 0. The last lines, 999, are wrong on purpose, one in each thing that is compared, one that lacks a field, and
+// one in each code and each got of an exchange: a replay that found them equal would show it.
 use std::cell::Cell;
 use std::env;
 use std::fs::File;
@@ -87,29 +87,41 @@ const PLACES: [Place; 9] = [
 ];
 
 // A point at which a call waits for its thread's next entry: before one access of the source's text. The rules name the places and
-// number the accesses; these two are all that a point adds.
+// number the accesses; these two are all that a point adds. C is u64, or Arms for an exchange.
 #[derive(Clone, Copy)]
-struct Point {
+struct Point<C> {
     place: Place,
-    code: u64,
+    code: C,
 }
 
-const fn point(place: Place, code: u64) -> Point {
+// An exchange has a code for each arm of the Result that it answers.
+#[derive(Clone, Copy)]
+struct Arms {
+    done: u64,
+    failed: u64,
+}
+
+const fn point(place: Place, code: u64) -> Point<u64> {
+    Point { place, code }
+}
+
+const fn exchange(place: Place, done: u64, failed: u64) -> Point<Arms> {
+    let code = Arms { done, failed };
     Point { place, code }
 }
 
 // Named function, field, access.
-const ACQUIRE_READ_RC_LOAD: Point = point(Place::Idle, 1);
-const ACQUIRE_READ_RC_COMPARE_EXCHANGE: Point = point(Place::ReadTry, 2);
-const ACQUIRE_READ_EXC_LOAD: Point = point(Place::ReadCheck, 3);
-const ACQUIRE_READ_RC_FETCH_SUB: Point = point(Place::ReadBack, 4);
-const BORROW_CELL_BORROW: Point = point(Place::Reading, 5);
-const RELEASE_READ_RC_FETCH_SUB: Point = point(Place::Reading, 6);
-const ACQUIRE_WRITE_EXC_COMPARE_EXCHANGE: Point = point(Place::Idle, 7);
-const ACQUIRE_WRITE_RC_LOAD: Point = point(Place::WriteWait, 8);
-const ACQUIRE_WRITE_CELL_TAKE: Point = point(Place::WriteTake, 9);
-const RELEASE_WRITE_CELL_PUT: Point = point(Place::Writing, 10);
-const RELEASE_WRITE_EXC_STORE: Point = point(Place::WritePut, 11);
+const ACQUIRE_READ_RC_LOAD: Point<u64> = point(Place::Idle, 1);
+const ACQUIRE_READ_RC_COMPARE_EXCHANGE: Point<Arms> = exchange(Place::ReadTry, 2, 13);
+const ACQUIRE_READ_EXC_LOAD: Point<u64> = point(Place::ReadCheck, 3);
+const ACQUIRE_READ_RC_FETCH_SUB: Point<u64> = point(Place::ReadBack, 4);
+const BORROW_CELL_BORROW: Point<u64> = point(Place::Reading, 5);
+const RELEASE_READ_RC_FETCH_SUB: Point<u64> = point(Place::Reading, 6);
+const ACQUIRE_WRITE_EXC_COMPARE_EXCHANGE: Point<Arms> = exchange(Place::Idle, 7, 14);
+const ACQUIRE_WRITE_RC_LOAD: Point<u64> = point(Place::WriteWait, 8);
+const ACQUIRE_WRITE_CELL_TAKE: Point<u64> = point(Place::WriteTake, 9);
+const RELEASE_WRITE_CELL_PUT: Point<u64> = point(Place::Writing, 10);
+const RELEASE_WRITE_EXC_STORE: Point<u64> = point(Place::WritePut, 11);
 
 // added: the drop of a handle is an entry of its own, and makes no access.
 const DROPPED: u64 = 12;
@@ -153,39 +165,53 @@ struct RwLock {
     told: Cell<(u64, u64)>,
 }
 
-// added: what a row tells of an access's answer.
-trait Got {
-    fn got(&self) -> u64;
+// added: what a row tells of an access by its answer: the code, of those that its point has, and got.
+trait Answer {
+    type Code: Copy;
+
+    fn row(&self, code: Self::Code) -> (u64, u64);
 }
 
-impl Got for u64 {
-    fn got(&self) -> u64 {
-        *self
+impl Answer for u64 {
+    type Code = u64;
+
+    fn row(&self, code: u64) -> (u64, u64) {
+        (code, *self)
     }
 }
 
-impl Got for bool {
-    fn got(&self) -> u64 {
-        u64::from(*self)
+impl Answer for bool {
+    type Code = u64;
+
+    fn row(&self, code: u64) -> (u64, u64) {
+        (code, u64::from(*self))
     }
 }
 
-impl Got for () {
-    fn got(&self) -> u64 {
-        0
+impl Answer for () {
+    type Code = u64;
+
+    fn row(&self, code: u64) -> (u64, u64) {
+        (code, 0)
     }
 }
 
-impl<T> Got for Result<T, T> {
-    fn got(&self) -> u64 {
-        u64::from(self.is_ok())
+// The source returns the value found in both arms.
+impl<T: Answer<Code = u64>> Answer for Result<T, T> {
+    type Code = Arms;
+
+    fn row(&self, code: Arms) -> (u64, u64) {
+        match self {
+            Result::Ok(found) => found.row(code.done),
+            Result::Err(found) => found.row(code.failed),
+        }
     }
 }
 
 // Waits until its thread is resumed.
 struct Pause<'a> {
     lock: &'a RwLock,
-    point: Point,
+    place: Place,
     waited: bool,
 }
 
@@ -197,7 +223,7 @@ impl Future for Pause<'_> {
             return Poll::Ready(());
         }
         self.waited = true;
-        self.lock.waits.set(self.point.place);
+        self.lock.waits.set(self.place);
         Poll::Pending
     }
 }
@@ -227,15 +253,15 @@ impl RwLock {
     }
 
     // One access: waits for an entry, makes it, and keeps what the row is to tell.
-    async fn access<T: Got>(&self, point: Point, make: impl FnOnce() -> T) -> T {
+    async fn access<T: Answer>(&self, point: Point<T::Code>, make: impl FnOnce() -> T) -> T {
         let pause = Pause {
             lock: self,
-            point,
+            place: point.place,
             waited: false,
         };
         pause.await;
         let answer = make();
-        self.told.set((point.code, answer.got()));
+        self.told.set(answer.row(point.code));
         answer
     }
 
@@ -2243,8 +2269,9 @@ impl<W: Write> List<W> {
         Ok(())
     }
 
-    // What the list touches. It has to be every number of a call and of an entry, and every way of an entry: the table has 13 rows, three
-    // of them for two operations or two places, which makes 16, and seven of these have two outcomes.
+    // What the list touches. It has to be every number of a call and of an entry, every code, and every way of an entry: the table has 13
+    // rows, three of them for two operations or two places, which makes 16, and seven of these have two outcomes. A load has one code for
+    // both, an exchange one for each.
     fn touched(&mut self) {
         self.lines.sort_unstable();
         self.refused.sort_unstable();
@@ -2267,6 +2294,9 @@ impl<W: Write> List<W> {
         assert_eq!(numbers(&self.refused), [0, 1, 2, 3, 4, 5, 6, 7, 10, 17, 41]);
         assert_eq!(numbers(&self.entries), [11, 12, 13, 14, 15, 16]);
         assert_eq!(self.ways.len(), 23, "the ways of an entry");
+        let mut codes: Vec<u64> = self.ways.iter().map(|(way, _)| way.2).collect();
+        codes.dedup();
+        assert!(codes.into_iter().eq(1..=14), "the codes of an access");
         eprintln!("{} lines", self.lines.iter().map(|c| c.1).sum::<u64>());
     }
 
@@ -2288,7 +2318,37 @@ impl<W: Write> List<W> {
         setup.scripts = Scripts::of(&[vec![(1, 0), (3, 0)], vec![(4, 0), (5, 13)]]);
         let (line, from) = setup.line();
         self.wrong_in(&line, from + 3, line[from + 3] + 1)?;
-        self.wrong_orders(setup)
+        self.wrong_orders(setup)?;
+        self.wrong_exchanges()
+    }
+
+    // An exchange of rc and one of exc, done and failed: with the code of the other arm, and with the other got, by which a done one
+    // tells what it left and a failed one what it expected, or both of them only whether they were done.
+    fn wrong_exchanges(&mut self) -> io::Result<()> {
+        let (read, write) = (vec![(1, 0), (3, 0)], vec![(4, 0), (5, 13)]);
+        let d = Direct {
+            what: WRONG,
+            call: RUN,
+            state: fresh_state(3, PREDS[1].0, 5, 4),
+            scripts: Scripts::of(&[read.clone(), read, write.clone(), write]),
+            schedule: vec![0, 1, 0, 1, 2, 3],
+            budget: 6,
+            trace: marks(36),
+        };
+        let (line, from) = d.line();
+        let trace = from + 5 + 13 + 17 + 1;
+        for (row, told, code) in [
+            (2, [2, 0], 13),
+            (3, [13, 1], 2),
+            (4, [7, 0], 14),
+            (5, [14, 1], 7),
+        ] {
+            let (access, got) = (trace + 6 * row + 1, trace + 6 * row + 3);
+            assert_eq!([line[access], line[got]], told, "an exchange");
+            self.wrong_in(&line, access, code)?;
+            self.wrong_in(&line, got, line[got] ^ 1)?;
+        }
+        Ok(())
     }
 
     // The entries of that drain: the number, n, the bound, an entry, the word behind the last; and where they have no room, a word written.
