@@ -167,7 +167,7 @@ struct RwLock {
 
 // added: what a row tells of an access by its answer: the code, of those that its point has, and got.
 trait Answer {
-    type Code: Copy;
+    type Code;
 
     fn row(&self, code: Self::Code) -> (u64, u64);
 }
