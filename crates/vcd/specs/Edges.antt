@@ -59,7 +59,7 @@ LastTime = (blockAt 0 none (timeLine mostRows) .good ≡ true) × (blockAt 0 non
 
 -- a row's flag is its fifth word, its count the sixth: access 7 puts the flag up while two readers are counted
 abbrev pub FlagUp : Type 0
-FlagUp = fileOf (3 ∷ 7 ∷ 0 ∷ 1 ∷ 1 ∷ 2 ∷ []) (record { exc = 0; rc = 2 }) ≡ front (record { exc = 0; rc = 2 }) ++ bytes "#1\n1e\n"
+FlagUp = fileOf (3 ∷ 7 ∷ 0 ∷ 0 ∷ 1 ∷ 2 ∷ []) (record { exc = 0; rc = 2 }) ≡ front (record { exc = 0; rc = 2 }) ++ bytes "#1\n1e\n"
 
 -- ---- read: two words are room for the signals of time 0 alone, which are no row, and the word behind them stays; in a refusal all stay
 abbrev pub ReadEdges : Type 0
