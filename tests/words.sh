@@ -173,7 +173,7 @@ printf 'kind,a,b,c\r\nlock,3,5,1\r\npred,0,0,0\r\nrun,0,65535,0\r\nrun,0,34466,0
 awk 'BEGIN { for (n = -1; n <= 100000; n++) print n < 0 ? "n,thread,access,answer,got,exc,rc\r" : n ",0,0,12,0,0,0\r" }' >"$room/many.out"
 ends "many rows" " 100000       0  refused 12: its script is empty                                         down      0" "$room/many.csv" "$room/many.out"
 
-# What beat an exchange fits its column with the longest numbers: rows of seven digits, thread 15, a count of three, which takes dropped handles.
+# What beat an exchange fits its column with long numbers: rows of seven digits, thread 15, a count of three, which takes dropped handles.
 # rows: of a trace that has come to row 1000000, from lines without numbers
 rows() {
     awk 'BEGIN { print "n,thread,access,answer,got,exc,rc\r" } { print 1000000 + k++ "," $0 "\r" }'
@@ -198,7 +198,7 @@ printf '%s\n' 15,7,0,0,1,0 15,8,0,0,1,0 15,9,0,5,1,0 15,12,0,0,1,0 10,14,0,1,1,0
 ends "the longest words, of the flag" "1000004      10  into_inner waits for ever: thread 15 dropped its handle (row 1000003)   up        0" \
     "$room/drop.csv" "$room/drop.out"
 
-# A trace of another scenario is not explained, and none that has 1 where an exchange was done: that is what is found now.
+# A trace of another scenario is not explained, nor one in which an exchange that found 0 got 1, or one that failed has the code of one that is done.
 # other WHAT ROW SCENARIO TRACE
 other() {
     for awk in $awks; do

@@ -47,8 +47,8 @@ function writer() {
     return "drops its write handle: the flag stays up and the value is gone"
 }
 
-# What beat an exchange of the count: in that row it left the number that the thread saw. Words with the longest numbers that there are just
-# fit their column: counts of three digits (a script can drop 32 handles), thread 15 and a row of seven.
+# What beat an exchange of the count: in that row it left the number that the thread saw. With thread 15, counts of three digits (a script can
+# drop 32 handles) and a row of eight the words just fit their column.
 function beaten(saw,    did) {
     did = left_access[saw] == 2 ? "counted itself" : left_access[saw] == 4 ? "took itself off" : "gave a handle back"
     return "thread " left_by[saw] " " did " (row " left_row[saw] ")"

@@ -14,12 +14,12 @@ BEGIN {
 NR == FNR {
     line[FNR] = $0
     lines = FNR
-    # A row stands two lines below its number. That of no access is kept as nobody's.
+    # A row stands two lines below its number; before the first the count is 0. One that makes no access is kept as nobody's.
     who[FNR - 2] = $4 == "0" ? $2 : ""
     access[FNR - 2] = $3
     got[FNR - 2] = $5
     exc[FNR - 2] = $6
-    rc[FNR - 2] = FNR < 3 ? 0 : $7
+    rc[FNR - 2] = FNR < 2 ? 0 : $7
     next
 }
 FNR > lines { bad = 1 }
@@ -50,8 +50,8 @@ function before(n, t) {
     return -1
 }
 
-# 'thread T did this (row N)': sets by, did and row.
-function named(text) {
+# 'thread T did this (row N)', in a row before n: sets by, did and row.
+function named(n, text) {
     if (text !~ /^thread [0-9]+ [a-z ]+ \(row [0-9]+\)$/) return 0
     split(text, part, " ")
     by = part[2]
@@ -59,13 +59,13 @@ function named(text) {
     gsub(/^thread [0-9]+ | \(row [0-9]+\)$/, "", did)
     row = text
     gsub(/.*\(row |\)$/, "", row)
-    return 1
+    return row + 0 < n + 0
 }
 
 # 'waits: saw S, found F: ...': the thread's last row loaded S, and F is there now. In the row named, behind that one, the other thread made the
 # count leave S, which it did not come back to.
 function count_lost(n, text,    part, looked, i) {
-    if (split(text, part, ": ") != 3 || !named(part[3])) return 0
+    if (split(text, part, ": ") != 3 || !named(n, part[3])) return 0
     looked = before(n, who[n])
     if (part[2] != "saw " got[looked] ", found " got[n] || access[looked] != 1 || got[n] != rc[n]) return 0
     if (who[row] != by || access[row] != DID[did] || row + 0 <= looked || rc[row - 1] != got[looked]) return 0
@@ -78,10 +78,10 @@ function flag_lost(n, text,    i) {
     if (got[n] != 1) return 0
     if (sub(/^waits: the flag is up, put up by thread /, "thread ", text)) {
         sub(/ \(/, " did (", text)
-        if (!named(text) || who[row] != by || access[row] != 7 || access[before(n, by)] == 12) return 0
+        if (!named(n, text) || who[row] != by || access[row] != 7 || access[before(n, by)] == 12) return 0
         for (i = row + 0; i <= n; i++) if (exc[i] != 1) return 0
         return 1
     }
-    if (!sub(/^waits for ever: /, "", text) || !named(text)) return 0
+    if (!sub(/^waits for ever: /, "", text) || !named(n, text)) return 0
     return did == "dropped its handle" && who[row] == by && access[row] == 12 && access[before(row, by)] == 9
 }

@@ -18,7 +18,7 @@ pub const INTO_INNER: u64 = 7;
 // Access codes of a row.
 pub const LOADS_RC: u64 = 1;
 
-// An exchange that is done; one that failed is 13 or 14.
+// An exchange that is done, as 7 is.
 pub const EXCHANGES_RC: u64 = 2;
 
 pub const LOADS_EXC: u64 = 3;
@@ -41,6 +41,7 @@ pub const STORES_EXC: u64 = 11;
 
 pub const DROPS_HANDLE: u64 = 12;
 
+// An exchange that failed, of the count and of the flag.
 pub const FAILS_RC: u64 = 13;
 
 pub const FAILS_EXC: u64 = 14;

@@ -244,7 +244,8 @@ abbrev pub TellsExchange : Lock → Rec → ℕ → Row → Type 0
 TellsExchange L r o row =
     (r .place ≡ ReadTry → TellsRc L r row) × (r .place ≡ Idle → (o ≡ acquireWrite) ⊎ (o ≡ intoInner) → TellsExc L row)
 
--- from every state. That only such an entry has one of these codes is Code2, Code7, Code13 and Code14.
+-- From every state, sound or not. That only such an entry has one of these codes is said of sound states, by Code2, Code7, Code13 and
+-- Code14.
 abbrev pub ExchangeTold : Type 0
 ExchangeTold =
     (S : Scripts) (L : Lock) (l : List Rec) (i : ℕ) → entryRefusal S L l i ≡ 0

@@ -31,7 +31,7 @@ noAccess = 0
 abbrev pub loadsRc : ℕ
 loadsRc = 1
 
--- an exchange that is done; one that failed is 13 or 14
+-- an exchange that is done, as 7 is
 abbrev pub exchangesRc : ℕ
 exchangesRc = 2
 
@@ -65,6 +65,7 @@ storesExc = 11
 abbrev pub dropsHandle : ℕ
 dropsHandle = 12
 
+-- an exchange that failed, of the count and of the flag
 abbrev pub failsRc : ℕ
 failsRc = 13
 
