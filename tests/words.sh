@@ -213,6 +213,20 @@ sed 's/^4,1,13,0,1,/4,1,2,0,0,/' examples/case-e.out >"$room/older.out"
 other "an older trace, failed" 4 examples/case-e.csv "$room/older.out"
 sed 's/^1,1,14,0,1,/1,1,7,0,0,/' tests/words/rows-writers.out >"$room/older.out"
 other "an older trace, the flag" 1 tests/words/rows-writers.csv "$room/older.out"
+
+# What judges the words of random files (tests/words/agree.awk) takes these words, and none that say of an exchange that another row beat it.
+# taken NAME LINE: the rows with which it takes the sentence on that line
+taken() {
+    for row in $(awk -F, 'FNR > 1 { print $1 }' "tests/words/$1.out"); do
+        sed "$2s/(row [0-9]*)/(row $row)/" "tests/words/$1.words" >"$room/words"
+        ! awk -f tests/words/agree.awk "tests/words/$1.out" "$room/words" >/dev/null || echo "$row"
+    done
+}
+for name in rows-beaten-count rows-beaten-flag rows-beaten-for-ever; do
+    for line in $(grep -n '(row ' "tests/words/$name.words" | cut -d: -f1); do
+        same "what beat it ($name, line $line)" "$(sed -n "${line}s/.*(row \([0-9]*\)).*/\1/p" "tests/words/$name.words")" "$(taken "$name" "$line")"
+    done
+done
 echo "awks:$awks${lacking:+; not here:$lacking}"
 echo "$passed passed, $failed failed"
 [ "$failed" -eq 0 ]
