@@ -1,4 +1,4 @@
--- A run of one entry is machine's step, its answer is exact, and an accepted one makes the access of the table.
+-- A run of one entry is machine's step, its answer is exact, and an accepted one makes the access of the table, as each of any run does.
 use Prim.Native.Nat.{ℕ, _≤_}
 use mathlib.Core.Path.{_≡_, refl, sym, ap, _∙_}
 use mathlib.Core.Logic.{⊎-elim}
@@ -13,16 +13,19 @@ use Rattle.machine.specs.Sound.{Sound}
 use Rattle.machine.specs.Run.{run, accepted, wordsOf, entries, runRefusal, RunLeft, madeRun, runLent}
 use Rattle.machine.specs.declared.Lock.{Lock}
 use Rattle.machine.specs.declared.Rec.{Rec}
+use Rattle.machine.specs.declared.Row.{Row}
 use Rattle.machine.proofs.Accesses.{code-1, code-2, code-3, code-4, code-5, code-6, code-7, code-8, code-9, code-10, code-11, code-12, code-13, code-14, exchange-told, one-of-fourteen, got-permitted, others-stay}
 use Rattle.machine.proofs.ExactEntry.{entry-exact}
 use Rattle.machine.proofs.RunLaws.{row-says}
 use Rattle.machine.proofs.RunRule.{made}
+use Rattle.machine.proofs.Runs.{run-sound}
 use Rattle.lock.specs.Run.{ranOf}
 use Rattle.lock.proofs.ByValue.{run-by-value}
-use Rattle.lock_promises.specs.Accesses.{OneEntry, OneEntryByValue, Entered, AcceptedEntry, AcceptedEntryByValue, EntryAnswer, EntryAnswerByValue}
+use Rattle.lock.proofs.Piece.{further}
+use Rattle.lock_promises.specs.Accesses.{OneEntry, OneEntryByValue, Entered, AcceptedEntry, AcceptedEntryByValue, AcceptedEntries, EntryAnswer, EntryAnswerByValue}
 use Rattle.lock_promises.proofs.Rows.{handled}
 use Rattle.lock_promises.proofs.Reached.{ranAs}
-use Rattle.lock_promises.proofs.Runs.{not-refused as none-refused, handles, run-admits}
+use Rattle.lock_promises.proofs.Runs.{not-refused as none-refused, handles, run-admits, row-by-row}
 use Rattle.lock_promises.proofs.RunByValue.{run-made, run-ready, one-run, not-refused, entry-answered}
 
 -- ---- machine's step
@@ -88,6 +91,17 @@ entered S L l i sound none =
       size = size;
       others = others;
     }
+
+-- ---- each entry of a run
+pub accepted-entries : AcceptedEntries
+accepted-entries s L l schedule budget trace n zeros L′ l′ trace′ ran k h answer =
+    let S = scriptsOf s in
+    let w = run S L l (take k schedule) in
+    let i = getD schedule k 0 in
+    let row = row-by-row s L l schedule budget trace n zeros L′ l′ trace′ ran k h in
+    let (lock, recs, rows) = further S L l schedule k (omega (arith, ran .entries, h)) in
+    let none : entryRefusal S (w .lock) (w .recs) i ≡ 0 = sym (row-says S (w .lock) (w .recs) i .0) ∙ sym (ap (λ (r : Row). r .answer) row) ∙ answer in
+    rw (lock, recs, row) (entered S (w .lock) (w .recs) i (run-sound S (take k schedule) L l (ran .sound)) none)
 
 -- ---- a run that handles one entry
 module _

@@ -1,6 +1,6 @@
--- A run of one entry is machine's step, its answer is exact, and where it is 0 it makes the source's access: said of what the functions
--- of `lock` return.
-use Prim.Native.Nat.{ℕ, _≤_}
+-- A run of one entry is machine's step, its answer is exact, and where it is 0 it makes the source's access, as each entry of any run
+-- does: said of what the functions of `lock` return.
+use Prim.Native.Nat.{ℕ, suc, _*_, _≤_, _<_}
 use mathlib.Core.Path.{_≡_}
 use mathlib.Core.Logic.{_≢_, _⊎_}
 use mathlib.Core.Bool.{true}
@@ -14,7 +14,7 @@ use Rattle.machine.specs.Refusals.{Exact}
 use Rattle.machine.specs.Lists.{Lent, scriptsOf}
 use Rattle.machine.specs.Step.{Scripts, here, opOf, valOf, step}
 use Rattle.machine.specs.Accesses.{TableRow, Does1, Does2, Does3, Does4, Does5, Does6, Does7, Does8, Does9, Does10, Does11, Does12, Does13, Does14, TellsExchange}
-use Rattle.machine.specs.Run.{wordsOf, RunLeft, runLent}
+use Rattle.machine.specs.Run.{run, wordsOf, RunLeft, runLent}
 use Rattle.machine.specs.When.{AtEntry}
 use Rattle.machine.specs.declared.Lock.{Lock}
 use Rattle.machine.specs.declared.Rec.{Rec}
@@ -23,6 +23,7 @@ use Rattle.lock.specs.ByValue.{putBack}
 use Rattle.lock.specs.declared.run.RunReturn.{RunReturn}
 use Rattle.lock_promises.specs.Given.{ReturnedByRun, LeftByRun}
 use Rattle.lock_promises.specs.Reached.{rowIn}
+use Rattle.lock_promises.specs.Runs.{IsRun}
 
 -- ---- a run of one entry that is not refused, with a budget and room for a row, is machine's step: one row, the lock and the records
 abbrev pub OneEntry : Type 0
@@ -96,6 +97,19 @@ AcceptedEntryByValue =
     → ReturnedByRun s count L recs (i ∷ []) budget trace r → LeftByRun s count L recs (i ∷ []) budget trace trace′
     → length recs ≡ mostThreads → r .n ≡ 1 → getD trace′ 2 0 ≡ 0
     → Entered (scriptsOf s) L (take count recs) i (r .lock) (take count (r .recs)) (rowIn trace′) × (drop count (r .recs) ≡ drop count recs)
+
+-- each entry of any run, by whichever function and from whatever state, if its row's answer is 0: before it is what the first k entries
+-- leave, after it what one more leaves
+abbrev pub AcceptedEntries : Type 0
+AcceptedEntries =
+    (s : Lent) (L : Lock) (l : List Rec) (schedule : List ℕ) (budget : ℕ) (trace : List ℕ) (n zeros : ℕ) (L′ : Lock) (l′ : List Rec) (trace′ : List ℕ)
+    → IsRun s L l schedule budget trace n zeros L′ l′ trace′
+    → (k : ℕ) → k < n
+    → let row = rowIn (drop (rowWords * k) trace′) in
+    row .answer ≡ 0
+    → let before = run (scriptsOf s) L l (take k schedule) in
+    let after = run (scriptsOf s) L l (take (suc k) schedule) in
+    Entered (scriptsOf s) (before .lock) (before .recs) (getD schedule k 0) (after .lock) (after .recs) row
 
 -- ---- the answer in the row of an entry, accepted or refused: it is exact, the lowest of 11 to 16 whose condition holds, 0 if none does
 abbrev pub EntryAnswer : Type 0
