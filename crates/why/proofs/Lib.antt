@@ -1,0 +1,6 @@
+pub mod Means
+pub mod Blockers
+pub mod Reasons
+pub mod Tells
+pub mod Answers
+pub mod WayOn

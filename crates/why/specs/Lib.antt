@@ -1,0 +1,4 @@
+pub mod Why
+pub mod Told
+pub mod Reasons
+pub mod WayOn
