@@ -1,4 +1,4 @@
--- Numbers with a comma before each, one list behind the other; and what is stored where there is room. Assumes nothing.
+-- Numbers with a comma before each, one list behind the other. Assumes nothing.
 use Prim.Native.Nat.{ℕ, zero, suc, _+_, _*_, _<_, _≤_, min}
 use mathlib.Core.Path.{_≡_, refl, sym, ap, subst, _∙_}
 use mathlib.Core.List.{List, [], _∷_, _++_, append-assoc, append-nil}
@@ -7,13 +7,12 @@ use native.Mathlib.Numerals.{add-one}
 use native.Mathlib.Omega.{arith}
 use lib.ListN.{length, getD, take, length-take}
 use lib.Seq.{take-suc, take-nil}
-use borrow.Author.Tests.{le-leb}
 use Rattle.scenario_lines.specs.Ascii.{bytes}
 use Rattle.scenario_lines.specs.Bytes.{longest}
 use Rattle.scenario_lines.specs.Judge.{comma}
 use Rattle.scenario_text.specs.Number.{text}
 use Rattle.scenario_text.specs.Lines.{break}
-use Rattle.scenario_text.specs.Put.{Put, stored, placeAfter}
+use Rattle.scenario_text.specs.Put.{Put}
 use Rattle.scenario_text.proofs.Stores.{puts}
 use Rattle.scenario_stages.specs.declared.Read.{Read}
 use Rattle.program_told.specs.Told.{listed, refusedBytes, readNumbers, readText}
@@ -30,13 +29,6 @@ one-listed v = ap (λ (l : List ℕ). comma ∷ l) (append-nil (text v))
 -- one number more of a list
 pub one-more : (l : List ℕ) (i : ℕ) → i < length l → listed (take (i + 1) l) ≡ listed (take i l) ++ listed (getD l i 0 ∷ [])
 one-more l i h = rw (add-one, take-suc l i 0 h) (listed-append (take i l) (getD l i 0 ∷ []))
-
--- where there is room, what a `put` function says of its text is that it was stored
-pub put-so : (o p s : List ℕ) (at r most : ℕ) → at + most ≤ length o → length s ≤ most → (r ≡ placeAfter most o at s) × (p ≡ stored most o at s)
-    → Put o at s most r p
-put-so o p s at r most room short (place, left) =
-    let fits = le-leb (at + most) (length o) room in
-    puts o p s at r most (rw fits at place) (rw fits at left) short
 
 pub nothing-yet : (o l : List ℕ) (at : ℕ) → Put o at (listed (take 0 l)) (21 * 0) at o
 unfolding listed

@@ -1,6 +1,6 @@
 -- Once all is out, a session has come to what the file of its bytes comes to. Assumes nothing.
 use Prim.Native.Nat.{ℕ, _≤_}
-use mathlib.Core.Bool.{Bool, true, false}
+use mathlib.Core.Bool.{Bool, true, false, cond}
 use mathlib.Core.Path.{_≡_, refl, sym, ap, _∙_}
 use mathlib.Core.List.{List, [], _++_}
 use native.Mathlib.Omega.{arith}
@@ -12,14 +12,16 @@ use Rattle.scenario.specs.declared.Stage.{Stage}
 use Rattle.scenario.specs.declared.Stage.the-variants.{Runs as AtRuns}
 use Rattle.scenario_stages.specs.Kept.{outline}
 use Rattle.scenario_stages.proofs.Means.{lock-means}
+use Rattle.scenario_pieces.specs.Piece.{firstOf}
+use Rattle.scenario_pieces.specs.Stands.{listed}
 use Rattle.scenario_read.specs.Feed.{World, lentIn, over, stopOf}
 use Rattle.scenario_read.specs.declared.State.{State}
 use Rattle.scenario_promises.specs.Session.{Session, MayCome}
-use Rattle.scenario_promises.specs.Piped.{endOfFile, ComesTo}
+use Rattle.scenario_promises.specs.Piped.{endOfFile, leftByFile, ComesTo}
 use Rattle.scenario_promises.proofs.Chose.{last-stage}
 use Rattle.scenario_promises.proofs.Holds.{lentOf, Entries, Kept}
 use Rattle.scenario_promises.proofs.Calls.{session-kept}
-use Rattle.scenario_promises.proofs.Ends.{all-run, over-so, reading-so, all-rows, refused-so, stands-so}
+use Rattle.scenario_promises.proofs.Ends.{all-run, over-so, reading-so, all-rows, refused-so, stands-so, first-so-far}
 use Rattle.scenario_promises.proofs.Scheduled.{file-scheduled}
 
 module _ (bytes words : List ℕ) (w : World) (k : Kept bytes words w) (all : over (w .state) ≡ true) (others : List ℕ) (none : MayCome w others) where
@@ -59,6 +61,11 @@ module _ (bytes words : List ℕ) (w : World) (k : Kept bytes words w) (all : ov
   stood-so : s .stood ≡ isAt (file .scenario .stage) AtRuns
   stood-so = stood-by (s .stood) (k .holds .entries) ∙ ap (λ (q : Reading). isAt (q .scenario .stage) AtRuns) is-file
 
+  stands-either : (b : Bool) → s .stood ≡ b → 3 ≤ stageNo (file .scenario .stage)
+      → let r = s .read in listed (lentIn w) (cond b (w .standing) (firstOf (r .pred) (r .top) (r .first))) ≡ leftByFile (bytes ++ others)
+  stands-either true e late = stands-so bytes words w k all others none e
+  stands-either false e late = first-so-far bytes words w k all others none e late
+
   comes : ComesTo (bytes ++ others) words w
   comes = record {
     rows = all-rows bytes words w k all others none;
@@ -66,6 +73,7 @@ module _ (bytes words : List ℕ) (w : World) (k : Kept bytes words w) (all : ov
     scripts = scripts-so;
     stood = stood-so;
     left = stands-so bytes words w k all others none;
+    stands = λ late. stands-either (s .stood) refl late;
   }
 
 pub comes-to : (bytes words : List ℕ) (w : World) → Session bytes words w → over (w .state) ≡ true → (others : List ℕ) → MayCome w others

@@ -1,8 +1,8 @@
 -- Once all is out, the rows are those of the bytes, the refusal is theirs, and the lock and the records are what the whole schedule leaves. Assumes
 -- nothing.
-use Prim.Native.Nat.{ℕ, _%_}
+use Prim.Native.Nat.{ℕ, _%_, _≤_}
 use mathlib.Core.Bool.{Bool, true, false, _||_, _&&_, not, cond, true≢false, false≢true}
-use mathlib.Core.Path.{_≡_, refl, sym, ap, _∙_}
+use mathlib.Core.Path.{_≡_, refl, sym, ap, subst, _∙_}
 use mathlib.Core.Logic.{_≢_}
 use mathlib.Core.List.{List, [], _++_, append-nil}
 use native.Mathlib.Omega.{arith}
@@ -17,10 +17,13 @@ use Rattle.scenario.specs.Refused.{stageNo}
 use Rattle.scenario.specs.Printed.{Reading, next, ended, rowsOf, readingOf}
 use Rattle.scenario.specs.ByBytes.{unread, readingFrom}
 use Rattle.scenario.specs.Pieces.{atFirst, afterPiece}
+use Rattle.scenario.specs.declared.Stage.{Stage}
 use Rattle.scenario.proofs.ByBytes.{read-by-bytes, cut-anywhere}
 use Rattle.scenario.proofs.Pieces.{one-piece}
 use Rattle.scenario_stages.specs.Kept.{outline}
 use Rattle.scenario_stages.specs.declared.Read.{Read}
+use Rattle.scenario_stages.proofs.Means.{lock-means}
+use Rattle.scenario_pieces.specs.Piece.{firstOf}
 use Rattle.scenario_pieces.specs.Stands.{pieceWords, listed}
 use Rattle.scenario_pieces.specs.declared.Standing.{Standing}
 use Rattle.scenario_read.specs.Feed.{World, lentIn, over}
@@ -28,7 +31,7 @@ use Rattle.scenario_read.specs.declared.State.{State}
 use Rattle.scenario_promises.specs.Session.{fileWords, MayCome}
 use Rattle.scenario_promises.proofs.Holds.{lentOf, Entries, Holds, Bytes, Kept}
 use Rattle.scenario_promises.proofs.Onward.{all-keep}
-use Rattle.scenario_promises.proofs.Writes.{no-rows, lent-same, first-same}
+use Rattle.scenario_promises.proofs.Writes.{no-entries, no-rows, lent-same, first-so, first-same}
 
 -- ---- the rows of the reading
 module _
@@ -70,6 +73,18 @@ module _
   all-stood none left there =
       let s = q .scenario in
       stands-by stood there (h .entries) ∙ ap (afterPiece (s .lent) (atFirst s)) (sym (all-run none left))
+
+  -- with nothing run yet, the lock would be set up as the scenario has it
+  all-first : gathered ≡ 0 → r .«run_left» ≡ 0 → stood ≡ false → 3 ≤ stageNo (r .stage)
+      → let s = q .scenario in listed (lentOf r lens ops vals) (firstOf (r .pred) (r .top) (r .first)) ≡ afterPiece (s .lent) (atFirst s) (s .schedule)
+  all-first none left fresh late =
+      let s = q .scenario in
+      let none-run = no-entries stood (outline r) (lentOf r lens ops vals) p gathered past rows fresh (h .entries) .0 in
+      let lent = lent-same r lens ops vals q (h .is) late in
+      let first = first-same r lens ops vals q (h .is) late in
+      first-so r lens ops vals q (h .is) late .is
+      ∙ sym (λ i. afterPiece (lent i) (first i) [])
+      ∙ ap (afterPiece (s .lent) (atFirst s)) (sym (all-run none left ∙ none-run))
 
 -- ---- a refusal ends the file
 module _ (q : Reading) (refused : q .refused ≢ 0) where
@@ -139,3 +154,12 @@ module _ (bytes words : List ℕ) (w : World) (k : Kept bytes words w) (all : ov
   stands-so there =
       let (waits, left, _) = over-so s all in
       rw (← reading-so) (all-stood _ _ _ _ _ _ _ _ _ _ _ (k .holds) waits left there)
+
+  pub first-so-far : s .stood ≡ false → 3 ≤ stageNo (file .scenario .stage)
+      → let r = s .read in
+      listed (lentIn w) (firstOf (r .pred) (r .top) (r .first)) ≡ afterPiece (file .scenario .lent) (atFirst (file .scenario)) (file .scenario .schedule)
+  first-so-far fresh late =
+      let (waits, left, _) = over-so s all in
+      let stage = lock-means _ _ _ _ _ (k .holds .is) .0 in
+      let late′ : 3 ≤ stageNo (s .read .stage) = subst (λ (x : Stage). 3 ≤ stageNo x) (ap (λ (q : Reading). q .scenario .stage) (sym reading-so) ∙ stage) late in
+      rw (← reading-so) (all-first _ _ _ _ _ _ _ _ _ _ _ (k .holds) waits left fresh late′)

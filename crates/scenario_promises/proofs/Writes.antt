@@ -36,7 +36,7 @@ module _ (r : Read) (lens ops vals : List ℕ) (q : Reading) (m : Means r lens o
   abbrev lent : Lent
   lent = lentOf r lens ops vals
 
-  first-so : Stands lent (r .pred) (r .top) (r .first) [] (firstOf (r .pred) (r .top) (r .first))
+  pub first-so : Stands lent (r .pred) (r .top) (r .first) [] (firstOf (r .pred) (r .top) (r .first))
   first-so =
       let l = lent-means r lens ops vals q m late in
       let e = lock-means r lens ops vals q m in

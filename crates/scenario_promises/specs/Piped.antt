@@ -16,7 +16,9 @@ use Rattle.scenario.specs.ByBytes.{unread}
 use Rattle.scenario.specs.Pieces.{Standing as Listed, atFirst, afterPiece}
 use Rattle.scenario.specs.declared.Stage.the-variants.{Runs}
 use Rattle.scenario_stages.specs.Kept.{outline}
+use Rattle.scenario_pieces.specs.Piece.{firstOf}
 use Rattle.scenario_pieces.specs.Stands.{listed}
+use Rattle.scenario_pieces.specs.declared.Standing.{Standing}
 use Rattle.scenario_read.specs.Feed.{World, fresh, mostWords, lentIn, nextOf, feed, over, stopOf, isEnd, isFull}
 use Rattle.scenario_read.specs.declared.State.{State}
 use Rattle.scenario_read.specs.declared.Move.the-variants.{Rest}
@@ -35,6 +37,10 @@ endOfFile file = cond (eqb (readingOf file .refused) 0) Over (Refused (readingOf
 abbrev pub leftByFile : List ℕ → Listed
 leftByFile file = let s = readingOf file .scenario in afterPiece (s .lent) (atFirst s) (s .schedule)
 
+-- the standing in w, or, before the first entry, the one that the lock is set up with
+abbrev pub standingIn : World → Standing
+standingIn w = let r = w .state .read in cond (w .state .stood) (w .standing) (firstOf (r .pred) (r .top) (r .first))
+
 -- `words` are the words of all its rows, and w is what they leave
 pub record ComesTo (file words : List ℕ) (w : World) : Type 0 where
   pub rows : words ≡ fileWords file
@@ -45,6 +51,8 @@ pub record ComesTo (file words : List ℕ) (w : World) : Type 0 where
   -- a lock was set up where there is a run line, and it and the records are what the schedule leaves
   pub stood : w .state .stood ≡ isAt (readingOf file .scenario .stage) Runs
   pub left : w .state .stood ≡ true → listed (lentIn w) (w .standing) ≡ leftByFile file
+  -- with and without a run line, from the pred line on
+  pub stands : 3 ≤ stageNo (readingOf file .scenario .stage) → listed (lentIn w) (standingIn w) ≡ leftByFile file
 
 -- ---- any cutting of the same bytes
 -- chunk after chunk: once all is out, the file is the chunks so far and whatever may come after them. A file that is refused early is told here before its

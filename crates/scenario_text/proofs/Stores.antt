@@ -75,6 +75,13 @@ module _ {o p s : List ℕ} {at r most : ℕ} where
 pub untold : (o s : List ℕ) (at most : ℕ) → leb (at + most) (length o) ≡ false → (at ≡ placeAfter most o at s) × (o ≡ stored most o at s)
 untold o s at most e = rw e (refl, refl)
 
+-- and where there is room, what they say is that the text was stored
+pub put-so : (o p s : List ℕ) (at r most : ℕ) → at + most ≤ length o → length s ≤ most → (r ≡ placeAfter most o at s) × (p ≡ stored most o at s)
+    → Put o at s most r p
+put-so o p s at r most room short (place, left) =
+    let fits = le-leb (at + most) (length o) room in
+    puts o p s at r most (rw fits at place) (rw fits at left) short
+
 room-by : (t : Bool) (len at most : ℕ) → most ≤ len → leb at (len - most) ≡ t → t ≡ leb (at + most) len
 room-by true len at most h e = sym (le-leb (at + most) len (omega (arith, leb-true at (len - most) e)))
 room-by false len at most h e = sym (lt-leb (at + most) len (omega (arith, leb-false at (len - most) e)))

@@ -7,7 +7,7 @@ use lib.ListN.{length, length-append}
 use Rattle.machine.specs.declared.Row.{Row}
 use Rattle.scenario_text.specs.Number.{text}
 use Rattle.scenario_lines.specs.Judge.{comma}
-use Rattle.scenario_text.specs.Lines.{fields, lastField, rowText}
+use Rattle.scenario_text.specs.Lines.{fields, lastField, rowText, fourText}
 use Rattle.scenario_text.proofs.Digits.{text-short}
 
 pub fields-append : (a b : List ℕ) → fields (a ++ b) ≡ fields a ++ fields b
@@ -25,6 +25,15 @@ unfolding rowText
 row-parts n row =
     ap (λ (l : List ℕ). l ++ lastField (row .rc)) (fields-append (n ∷ row .thread ∷ row .access ∷ row .answer ∷ []) (row .got ∷ row .exc ∷ []))
     ∙ append-assoc (fields (n ∷ row .thread ∷ row .access ∷ row .answer ∷ [])) (fields (row .got ∷ row .exc ∷ [])) (lastField (row .rc))
+
+pub four-parts : (a b c d : ℕ) → fourText a b c d ≡ fields (a ∷ b ∷ []) ++ (fields (c ∷ []) ++ lastField d)
+unfolding fourText
+four-parts a b c d =
+    ap (λ (l : List ℕ). l ++ lastField d) (fields-append (a ∷ b ∷ []) (c ∷ [])) ∙ append-assoc (fields (a ∷ b ∷ [])) (fields (c ∷ [])) (lastField d)
+
+pub four-short : (a b c d : ℕ) → length (fourText a b c d) ≤ 85
+unfolding fourText fields lastField
+four-short a b c d = simp length-append (omega (arith, text-short a, text-short b, text-short c, text-short d))
 
 -- seven numbers, six commas and the break
 pub row-short : (n : ℕ) (row : Row) → length (rowText n row) ≤ 148

@@ -25,6 +25,10 @@ header = bytes "n,thread,access,answer,got,exc,rc\r\n"
 unfoldable pub rowText : ℕ → Row → List ℕ
 rowText n row = fields (n ∷ row .thread ∷ row .access ∷ row .answer ∷ row .got ∷ row .exc ∷ []) ++ lastField (row .rc)
 
+-- a line of four numbers
+unfoldable pub fourText : ℕ → ℕ → ℕ → ℕ → List ℕ
+fourText a b c d = fields (a ∷ b ∷ c ∷ []) ++ lastField d
+
 -- the refusal's number, and the line at which it is given
 unfoldable pub refusal : ℕ → ℕ → List ℕ
 refusal number line = bytes "refused," ++ (fields (number ∷ []) ++ lastField line)

@@ -8,7 +8,7 @@ ghost use lib.Dec.{leb};
 ghost use lib.ListN.{length};
 ghost use lib.Seq.{sets};
 ghost use Rattle.scenario_text.specs.Number.{text};
-ghost use Rattle.scenario_text.specs.Lines.{fields, lastField, header, refusal, rowText};
+ghost use Rattle.scenario_text.specs.Lines.{fields, lastField, header, refusal, rowText, fourText};
 ghost use Rattle.scenario_text.specs.Put.{Put, stored, placeAfter};
 use machine::ROW_WORDS;
 use machine::Row;
@@ -18,6 +18,9 @@ const NUMBER: usize = 20;
 
 // Of a row: seven numbers, six commas and the break.
 pub const ROW_BYTES: usize = 148;
+
+// Of a line of four numbers: three commas and the break.
+pub const FOUR_BYTES: usize = 85;
 
 const HEADER: usize = 35;
 
@@ -43,6 +46,17 @@ pub fn put_row(out: &mut [u8], at: usize, n: u64, row: Row) -> usize
 {
     if has_room(out.len(), at, ROW_BYTES) {
         return write_row(out, at, n, row);
+    }
+    at
+}
+
+// A line of four numbers.
+pub fn put_four(out: &mut [u8], at: usize, a: u64, b: u64, c: u64, d: u64) -> usize
+    ensures { λ r. ⌜ r ≡ placeAfter 85 (now (out .entry)) at (fourText a b c d) ⌝ }
+    ensures { λ _. ⌜ now (out .exit) ≡ stored 85 (now (out .entry)) at (fourText a b c d) ⌝ }
+{
+    if has_room(out.len(), at, FOUR_BYTES) {
+        return write_line(out, at, a, b, c, d);
     }
     at
 }
@@ -201,6 +215,14 @@ fn write_numbers(out: &mut [u8], at: usize, number: u64, line: u64) -> usize
 {
     let n = write_field(out, at, number);
     write_last(out, n, line)
+}
+
+fn write_line(out: &mut [u8], at: usize, a: u64, b: u64, c: u64, d: u64) -> usize
+    requires { ⌜ at + 85 ≤ length (now out) ⌝ }
+    ensures { λ r. ⌜ Put (now (out .entry)) at (fourText a b c d) 85 r (now (out .exit)) ⌝ }
+{
+    let n = write_two(out, at, a, b);
+    write_numbers(out, n, c, d)
 }
 
 fn write_refusal(out: &mut [u8], at: usize, number: u64, line: u64) -> usize

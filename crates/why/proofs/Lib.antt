@@ -4,3 +4,4 @@ pub mod Reasons
 pub mod Tells
 pub mod Answers
 pub mod WayOn
+pub mod Cases

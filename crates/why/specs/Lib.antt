@@ -2,3 +2,4 @@ pub mod Why
 pub mod Told
 pub mod Reasons
 pub mod WayOn
+pub mod Cases

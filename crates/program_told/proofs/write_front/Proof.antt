@@ -3,8 +3,7 @@ use native.Mathlib.Omega.{arith}
 use denote.Ref.{now}
 use borrow.Author.Needs.{needs}
 use Rattle.scenario_lines.specs.Ascii.{bytes}
-use Rattle.scenario_text.proofs.Stores.{both}
-use Rattle.program_told.proofs.Listed.{put-so}
+use Rattle.scenario_text.proofs.Stores.{both, put-so}
 use Rattle.program_told.proofs.write_front.Statement.{statement}
 use Rattle.program_told.proofs.write_front.Tie as tie
 

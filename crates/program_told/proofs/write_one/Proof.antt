@@ -5,9 +5,9 @@ use denote.Ref.{now}
 use borrow.Author.Needs.{needs}
 use Rattle.scenario_text.specs.Number.{text}
 use Rattle.scenario_lines.specs.Judge.{comma}
-use Rattle.scenario_text.proofs.Stores.{both}
+use Rattle.scenario_text.proofs.Stores.{both, put-so}
 use Rattle.scenario_text.proofs.Digits.{text-short}
-use Rattle.program_told.proofs.Listed.{put-so, one-listed}
+use Rattle.program_told.proofs.Listed.{one-listed}
 use Rattle.program_told.proofs.write_one.Statement.{statement}
 use Rattle.program_told.proofs.write_one.Tie as tie
 

@@ -2,8 +2,7 @@
 use native.Mathlib.Omega.{arith}
 use borrow.Author.Needs.{needs}
 use Rattle.scenario_text.specs.Lines.{break}
-use Rattle.scenario_text.proofs.Stores.{both}
-use Rattle.program_told.proofs.Listed.{put-so}
+use Rattle.scenario_text.proofs.Stores.{both, put-so}
 use Rattle.program_told.proofs.write_rest.Statement.{statement}
 use Rattle.program_told.proofs.write_rest.Tie as tie
 
