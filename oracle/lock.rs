@@ -4,6 +4,7 @@
 //     mkdir -p target && rustc -O --edition 2021 oracle/lock.rs -o target/lock_oracle
 //     target/lock_oracle run < scenario.csv        the trace of a scenario, as the rules' runner prints it
 //     target/lock_oracle drain < scenario.csv      the same, then the rows of the drain order and how many they are and may be
+//     target/lock_oracle why < scenario.csv        where the scenario leads: why each thread waits, or how its next entry is refused
 //     target/lock_oracle direct FILE               writes the list of direct calls, described below, to FILE
 //
 // The loops of acquire_read, acquire_write, release_read, release_write and into_inner stand here as the source has them, each as an
@@ -85,6 +86,15 @@ const PLACES: [Place; 9] = [
     Place::Writing,
     Place::WritePut,
 ];
+
+// Where a record holds the flag, and where it is a counted reader.
+const HOLDERS: [Place; 4] = [
+    Place::WriteWait,
+    Place::WriteTake,
+    Place::Writing,
+    Place::WritePut,
+];
+const COUNTED: [Place; 3] = [Place::ReadCheck, Place::ReadBack, Place::Reading];
 
 // A point at which a call waits for its thread's next entry: before one access of the source's text. The rules name the places and
 // number the accesses; these two are all that a point adds. C is u64, or Arms for an exchange.
@@ -862,11 +872,7 @@ struct View<'a> {
 
 impl View<'_> {
     fn count(&self, places: &[Place]) -> u128 {
-        self.s
-            .records
-            .iter()
-            .filter(|r| places.contains(&r.place))
-            .count() as u128
+        u128::from(self.s.count(places))
     }
 
     fn all(&self, clause: impl Fn(&Record) -> bool) -> bool {
@@ -888,7 +894,7 @@ impl View<'_> {
     fn of_the_numbers(&self) -> [bool; 10] {
         let s = self.s;
         let finished = u128::from(s.finished);
-        let counted = self.count(&[Place::ReadCheck, Place::ReadBack, Place::Reading]);
+        let counted = self.count(&COUNTED);
         let seen_zero = self.count(&[Place::WriteTake, Place::Writing, Place::WritePut]);
         let gone = u128::from(s.writes) + finished;
         let writers = self.count(&[Place::WriteWait]) + seen_zero + gone;
@@ -1046,10 +1052,102 @@ fn plain_cost(s: &State, x: &Scripts) -> u64 {
 }
 
 // ---------------------------------------------------------------------------------------------------------------------------------------
+// Why a thread waits. Its next access is made as the source makes it, on a copy; where that access failed, the records tell who is to
+// blame for it.
+
+#[derive(Clone, Copy, PartialEq, Eq, Debug)]
+enum Why {
+    NotWaiting,
+    CountFull,
+    CountChanged,
+    // The record that holds the flag.
+    FlagHeld(u64),
+    FlagDropped,
+    // The lowest-numbered counted reader.
+    Counted(u64),
+    OnlyDropped,
+}
+
+impl Why {
+    // The reason's number, and the record's beside it.
+    fn numbers(self) -> (u64, u64) {
+        match self {
+            Why::NotWaiting => (0, 0),
+            Why::CountFull => (1, 0),
+            Why::CountChanged => (2, 0),
+            Why::FlagHeld(i) => (3, i),
+            Why::FlagDropped => (4, 0),
+            Why::Counted(i) => (5, i),
+            Why::OnlyDropped => (6, 0),
+        }
+    }
+}
+
+impl State {
+    fn count(&self, places: &[Place]) -> u64 {
+        let there = |r: &&Record| places.contains(&r.place);
+        self.records.iter().filter(there).count() as u64
+    }
+
+    fn first_at(&self, places: &[Place]) -> Option<u64> {
+        let there = |r: &Record| places.contains(&r.place);
+        self.records.iter().position(there).map(|i| i as u64)
+    }
+
+    // In a sound state: why a thread waits, or the number with which its next entry is refused. A machine of its own makes the entry.
+    fn why(&self, scripts: &Scripts, number: u64) -> Result<Why, u64> {
+        let lock = RwLock::new(0, self.top);
+        let mut copy = Machine::at(&lock, self, scripts);
+        assert_eq!(copy.state(), *self, "threads are led to where they stand");
+        let [_, code, answer, got, ..] = copy.entry(number);
+        if answer != 0 {
+            return Err(answer);
+        }
+        let why = self.reason(code, got);
+        assert!(self.bears_out(why, number), "a reason is true of the state");
+        Ok(why)
+    }
+
+    // The failed looks and exchanges, as the row of the access tells them: 1 at M, 13, 3 seeing true, 14, 8 seeing non-zero.
+    fn reason(&self, code: u64, got: u64) -> Why {
+        match (code, got) {
+            (1, _) if got == self.top => Why::CountFull,
+            (13, _) => Why::CountChanged,
+            (3, 1) | (14, _) => self
+                .first_at(&HOLDERS)
+                .map_or(Why::FlagDropped, Why::FlagHeld),
+            (8, 1..) => self
+                .first_at(&COUNTED)
+                .map_or(Why::OnlyDropped, Why::Counted),
+            _ => Why::NotWaiting,
+        }
+    }
+
+    // Whether what a reason says is so, by the numbers of the state alone: no access is made for it.
+    fn bears_out(&self, why: Why, number: u64) -> bool {
+        let lone_holder = self.count(&HOLDERS) == 1 && self.writes == 0;
+        let place = |i: u64| self.records[i as usize].place;
+        match why {
+            Why::NotWaiting => true,
+            Why::CountFull => self.rc == self.top,
+            Why::CountChanged => self.records[number as usize].seen != self.rc,
+            Why::FlagHeld(i) => self.exc && lone_holder && HOLDERS.contains(&place(i)),
+            Why::FlagDropped => self.exc && self.count(&HOLDERS) == 0 && self.writes == 1,
+            Why::Counted(i) => {
+                let lower = |k: u64| COUNTED.contains(&place(k));
+                self.rc > 0 && COUNTED.contains(&place(i)) && !(0..i).any(lower)
+            }
+            Why::OnlyDropped => self.rc > 0 && self.rc == self.reads && self.count(&COUNTED) == 0,
+        }
+    }
+}
+
+// ---------------------------------------------------------------------------------------------------------------------------------------
 // Scenario files.
 
 const HEADER: &[u8] = b"kind,a,b,c";
 const TRACE_HEADER: &str = "n,thread,access,answer,got,exc,rc";
+const WHY_HEADER: &str = "thread,answer,reason,who";
 const BROKEN: u64 = 31;
 const WRONG_LINE: u64 = 32;
 
@@ -1216,6 +1314,23 @@ impl Scenario {
         let bound = plain_cost(&state, &scripts) + 3 * scripts.count();
         write!(out, "drained,{},{bound}\r\n", entries.len())
     }
+
+    // Where the run lines lead, why each thread waits.
+    fn print_whys(&self, out: &mut impl Write) -> io::Result<()> {
+        let scripts = Scripts::of(&self.scripts);
+        let lock = RwLock::new(self.first, self.top);
+        let state = self.led(&lock, &scripts, |_| Ok(()))?.state();
+        write!(out, "{WHY_HEADER}\r\n")?;
+        for thread in 0..self.threads {
+            let (answer, why) = match state.why(&scripts, thread) {
+                Ok(why) => (0, why),
+                Err(refused) => (refused, Why::NotWaiting),
+            };
+            let (reason, who) = why.numbers();
+            write!(out, "{thread},{answer},{reason},{who}\r\n")?;
+        }
+        Ok(())
+    }
 }
 
 // The lines of a file: each ends at CR LF and nowhere else, and the last break is optional.
@@ -1232,7 +1347,8 @@ fn lines(file: &[u8]) -> Vec<&[u8]> {
     lines
 }
 
-fn run_file(file: &[u8], drains: bool, out: &mut impl Write) -> io::Result<()> {
+// A file up to the line that is refused, if there is one, and that line's refusal and number.
+fn scenario_of(file: &[u8]) -> (Scenario, Option<(u64, u64)>) {
     let lines = lines(file);
     let mut scenario = Scenario::new();
     let refused = (1u64..).zip(&lines).find_map(|(i, line)| {
@@ -1241,6 +1357,11 @@ fn run_file(file: &[u8], drains: bool, out: &mut impl Write) -> io::Result<()> {
     });
     let cut_short = scenario.stage != Stage::Ops && scenario.stage != Stage::Runs;
     let refused = refused.or(cut_short.then_some((WRONG_LINE, lines.len() as u64 + 1)));
+    (scenario, refused)
+}
+
+fn run_file(file: &[u8], drains: bool, out: &mut impl Write) -> io::Result<()> {
+    let (scenario, refused) = scenario_of(file);
     write!(out, "{TRACE_HEADER}\r\n")?;
     let drains = drains && refused.is_none();
     if drains || !scenario.runs.is_empty() {
@@ -1248,6 +1369,15 @@ fn run_file(file: &[u8], drains: bool, out: &mut impl Write) -> io::Result<()> {
     }
     if let Some((number, line)) = refused {
         write!(out, "refused,{number},{line}\r\n")?;
+    }
+    out.flush()
+}
+
+// Of a file that is refused nothing is asked: its refusal stands alone, without a header.
+fn why_file(file: &[u8], out: &mut impl Write) -> io::Result<()> {
+    match scenario_of(file) {
+        (_, Some((number, line))) => write!(out, "refused,{number},{line}\r\n")?,
+        (scenario, None) => scenario.print_whys(out)?,
     }
     out.flush()
 }
@@ -2467,15 +2597,18 @@ fn main() -> ExitCode {
     let args: Vec<String> = env::args().skip(1).collect();
     let words: Vec<&str> = args.iter().map(String::as_str).collect();
     let ended = match words[..] {
-        [word @ ("run" | "drain")] => {
+        [word @ ("run" | "drain" | "why")] => {
             let mut file = Vec::new();
             let read = io::stdin().lock().read_to_end(&mut file);
             let mut out = BufWriter::new(io::stdout().lock());
-            read.and_then(|_| run_file(&file, word == "drain", &mut out))
+            read.and_then(|_| match word {
+                "why" => why_file(&file, &mut out),
+                _ => run_file(&file, word == "drain", &mut out),
+            })
         }
         ["direct", file] => File::create(file).and_then(|f| direct(BufWriter::new(f))),
         _ => {
-            eprintln!("usage: lock_oracle run < SCENARIO, or lock_oracle drain < SCENARIO, or lock_oracle direct FILE");
+            eprintln!("usage: lock_oracle run|drain|why < SCENARIO, or lock_oracle direct FILE");
             return ExitCode::from(2);
         }
     };
