@@ -18,20 +18,20 @@
 // LIST is the number of its elements and then the elements.
 //
 //   what      what the line is there for (see below); a replay needs it for its messages only
-//   call      1 setup, 2 run, 3 drain, 4 the entries of the drain order
+//   call      1 setup, 2 run, 3 drain, 4 the entries of the drain order, 5 why a thread waits
 //   LOCK      before the call
 //   RECORDS   before the call
 //   LIST      the lengths of the scripts
 //   LIST      the operations
 //   LIST      the values
-//   LIST      the schedule (empty but for run)
+//   LIST      the schedule (for 5 the one thread that is asked for; empty but for these two)
 //   budget    (0 but for run)
-//   LIST      the trace list before the call, or the list that the entries are written into (empty for setup and drain)
-//   number    the refusal's, 0 for none
+//   LIST      the trace list before the call, or the list that the entries are written into (empty for setup, drain and 5)
+//   number    the refusal's, 0 for none; for 5 also 11 to 16, of the thread's next entry
 //   thread    beside it
 //   place     beside it, a script place
-//   n         entries handled by run, entries used by drain, entries written by 4, 0 for setup
-//   done      rows with answer 0 for run, the bound of drain for 4 (0 where it is refused), 0 for setup and drain
+//   n         entries handled by run, entries used by drain, entries written by 4, the reason for 5, 0 for setup
+//   done      rows with answer 0 for run, the bound of drain for 4 (0 where it is refused), the record for 5, 0 for setup and drain
 //   LOCK      after the call, all 0 where a setup is refused
 //   RECORDS   after the call
 //   LIST      that list after the call
@@ -42,12 +42,18 @@
 // RECORDS is the number of records and four numbers for each: script place, place (0 Idle, 1 ReadTry, 2 ReadCheck, 3 ReadBack, 4 Reading,
 // 5 WriteWait, 6 WriteTake, 7 Writing, 8 WritePut), value seen, value taken.
 //
+// Reasons: 0 not waiting, 1 count full, 2 count changed since it looked, 3 flag up and a record holds it, 4 flag up by a dropped handle, 5
+// counted readers, 6 dropped read handles only. The record is the holder's number for 3, the lowest reader's for 5, else 0; both are 0
+// where the call or the next entry is refused. `why` on a scenario prints `thread,answer,reason,who` and a line for each thread in the
+// state at its end, answer being 0 or 12 to 16; of a scenario that is refused, that refusal alone. Lines end with CR LF.
+//
 // what: 1 setup's numbers in their order, 2 run's, 3 drain's, 4 n by each of the three lengths, 5 setups with good and bad input, 6
 // reached states, 7 sound states that no schedule need reach, 8 drain of case L, 9 neighbours where no clause fails, 10 states where more
 // than one clause fails, 11 sums that would wrap, 12 the most threads and the longest scripts (with the longest line, below 5,200 bytes),
-// 13 what stands beside 5 and 7, 14 the entries of the drain order, 100 + i only clause i of `SOUND` fails, 200 + i only clause i of `TIDY`
-// fails, both counted from 0. The last lines, 999, are wrong on purpose, one in each thing that is compared, one that lacks a field, and
-// one in each code and each got of an exchange: a replay that found them equal would show it.
+// 13 what stands beside 5 and 7, 14 the entries of the drain order, 15 why a thread waits, 100 + i only clause i of `SOUND` fails, 200 + i
+// only clause i of `TIDY` fails, both counted from 0. The last lines, 999, are wrong on purpose, one in each thing that is compared, one
+// that lacks a field, one in each code and each got of an exchange, and those of `WRONG_WHYS`: a replay that found them equal would show
+// it.
 use std::cell::Cell;
 use std::env;
 use std::fs::File;
@@ -62,7 +68,7 @@ use std::task::{Context, Poll, Waker};
 // ---------------------------------------------------------------------------------------------------------------------------------------
 // The source's lock.
 
-#[derive(Clone, Copy, PartialEq, Eq, Debug)]
+#[derive(Clone, Copy, PartialEq, Eq, PartialOrd, Ord, Debug)]
 enum Place {
     Idle,
     ReadTry,
@@ -1405,6 +1411,10 @@ const SETUP: u64 = 1;
 const RUN: u64 = 2;
 const DRAIN: u64 = 3;
 const ORDER: u64 = 4;
+const WHY: u64 = 5;
+
+// What the lines that ask why are there for.
+const ASKED: u64 = 15;
 
 // What a line that is wrong on purpose is there for.
 const WRONG: u64 = 999;
@@ -1436,6 +1446,26 @@ struct Told {
 type Way = (Place, u64, u64, Place);
 
 impl Direct {
+    // A call with no schedule, no budget and no list to write into.
+    fn of(what: u64, call: u64, state: &State, scripts: &Scripts) -> Direct {
+        Direct {
+            what,
+            call,
+            state: state.clone(),
+            scripts: scripts.clone(),
+            schedule: Vec::new(),
+            budget: 0,
+            trace: Vec::new(),
+        }
+    }
+
+    // Why a thread waits: its number is the schedule.
+    fn asking(what: u64, state: &State, scripts: &Scripts, thread: u64) -> Direct {
+        let mut asking = Direct::of(what, WHY, state, scripts);
+        asking.schedule.push(thread);
+        asking
+    }
+
     fn refusal(&self) -> Option<Refusal> {
         let (s, x) = (&self.state, &self.scripts);
         let scripts = x.refusal(s.records.len());
@@ -1446,7 +1476,7 @@ impl Direct {
         scripts.or_else(|| {
             if x.count() == 0 || x.count() > 16 || !unsound(s, x).is_empty() {
                 Some((10, 0, 0))
-            } else if self.call != RUN && !untidy(s, x).is_empty() {
+            } else if matches!(self.call, DRAIN | ORDER) && !untidy(s, x).is_empty() {
                 Some((17, 0, 0))
             } else {
                 None
@@ -1475,6 +1505,10 @@ impl Direct {
         };
         if let Some(refused) = self.refusal() {
             told.refused = refused;
+            return told;
+        }
+        if self.call == WHY {
+            self.why(&mut told);
             return told;
         }
         let s = &self.state;
@@ -1513,6 +1547,14 @@ impl Direct {
             {
                 told.ways.push((from, op, row[1], to));
             }
+        }
+    }
+
+    // The reason stands where a run has n, the record where it has the rows with answer 0. Lock and records stay as they were.
+    fn why(&self, told: &mut Told) {
+        match self.state.why(&self.scripts, self.schedule[0]) {
+            Ok(why) => (told.n, told.done) = why.numbers(),
+            Err(number) => told.refused = (number, 0, 0),
         }
     }
 
@@ -1712,6 +1754,10 @@ struct List<W: Write> {
     // Of the entries of runs: the numbers of the refused ones, and the ways of the others.
     entries: Vec<(u64, u64)>,
     ways: Vec<(Way, u64)>,
+    // Of the lines that ask why: all that is told of them, number and reason, and reason and record.
+    touches: Vec<(Touch, u64)>,
+    reasons: Vec<((u64, u64, Source), u64)>,
+    blamed: Vec<((u64, u64), u64)>,
 }
 
 fn count_up<K: PartialEq>(counts: &mut Vec<(K, u64)>, key: K) {
@@ -1747,27 +1793,11 @@ impl<W: Write> List<W> {
     }
 
     fn setup(&mut self, what: u64, state: &State, scripts: &Scripts) -> io::Result<Told> {
-        self.put(&Direct {
-            what,
-            call: SETUP,
-            state: state.clone(),
-            scripts: scripts.clone(),
-            schedule: Vec::new(),
-            budget: 0,
-            trace: Vec::new(),
-        })
+        self.put(&Direct::of(what, SETUP, state, scripts))
     }
 
     fn drain(&mut self, what: u64, state: &State, scripts: &Scripts) -> io::Result<Told> {
-        self.put(&Direct {
-            what,
-            call: DRAIN,
-            state: state.clone(),
-            scripts: scripts.clone(),
-            schedule: Vec::new(),
-            budget: 0,
-            trace: Vec::new(),
-        })
+        self.put(&Direct::of(what, DRAIN, state, scripts))
     }
 
     // A run of so many entries with room and budget for all of them, and some words of trace behind.
@@ -1797,7 +1827,12 @@ impl<W: Write> List<W> {
 
     // A state that a schedule reaches, with its scripts.
     fn reached(&mut self, wild: bool) -> (State, Scripts) {
-        let threads = 1 + self.random.below(4);
+        self.reached_by(4, wild)
+    }
+
+    // With up to so many threads.
+    fn reached_by(&mut self, most: usize, wild: bool) -> (State, Scripts) {
+        let threads = 1 + self.random.below(most);
         let (pred, values) = self.random.of(&PREDS);
         let top = self.random.of(&[1, 2, 3, 4, u64::MAX]);
         let values = if wild { &values[..] } else { &values[..2] };
@@ -1809,7 +1844,7 @@ impl<W: Write> List<W> {
             .collect();
         let scripts = Scripts::of(&scripts);
         let state = fresh_state(top, pred, values[0], threads);
-        let length = self.random.below(30);
+        let length = self.random.below(15 * most / 2);
         let direct = Direct {
             what: 0,
             call: RUN,
@@ -1923,9 +1958,14 @@ impl Random {
 
     // A sound state that need not be one that a schedule reaches: a writer of each kind or none, and readers beside it.
     fn foreign(&mut self) -> (State, Scripts) {
+        self.foreign_of(4)
+    }
+
+    // With up to so many threads.
+    fn foreign_of(&mut self, most: usize) -> (State, Scripts) {
         loop {
             let (pred, values) = self.of(&PREDS);
-            let threads = 1 + self.below(4);
+            let threads = 1 + self.below(most);
             let top = self.of(&[1, 2, 3, 5, u64::MAX - 1, u64::MAX]);
             let mut s = fresh_state(top, pred, values[0], threads);
             let mut scripts = Vec::new();
@@ -1986,24 +2026,23 @@ impl Random {
 
     // The numbers that go with the records: as sound states have them, dropped reads at will.
     fn completed(&mut self, s: &mut State) {
-        let count = |places: &[Place]| {
-            s.records
-                .iter()
-                .filter(|r| places.contains(&r.place))
-                .count() as u64
-        };
-        let counted = count(&[Place::ReadCheck, Place::ReadBack, Place::Reading]);
-        let seen_zero = count(&[Place::WriteTake, Place::Writing, Place::WritePut]);
+        let seen_zero = s.count(&[Place::WriteTake, Place::Writing, Place::WritePut]);
         let gone = s.writes + u64::from(s.finished);
-        let room = s.top.saturating_sub(counted);
+        let room = s.top.saturating_sub(s.count(&COUNTED));
         if seen_zero + gone == 0 {
             s.reads = self.of(&[0, 0, 0, room.min(1), room, room.saturating_sub(1)]);
         }
-        s.rc = counted + s.reads;
-        s.exc = count(&[Place::WriteWait]) + seen_zero + gone == 1;
-        if count(&[Place::Writing]) + gone > 0 {
-            (s.full, s.kept) = (false, 0);
-        }
+        settle(s);
+    }
+}
+
+// The flag, the count and the cell as the records and what was dropped make them.
+fn settle(s: &mut State) {
+    let gone = s.writes + u64::from(s.finished);
+    s.rc = s.count(&COUNTED) + s.reads;
+    s.exc = s.count(&HOLDERS) + gone == 1;
+    if s.count(&[Place::Writing]) + gone > 0 {
+        (s.full, s.kept) = (false, 0);
     }
 }
 
@@ -2080,6 +2119,12 @@ fn unmatched(s: &mut State, x: &mut Scripts, variant: usize) {
     }
 }
 
+// The numbers whose bits are in the set.
+fn chosen(numbers: &[u64], set: usize) -> Vec<u64> {
+    let in_set = (0..numbers.len()).filter(|i| set >> i & 1 == 1);
+    in_set.map(|i| numbers[i]).collect()
+}
+
 const VARIANTS: usize = 6;
 const ALONE: usize = 16;
 
@@ -2093,10 +2138,7 @@ impl<W: Write> List<W> {
         ];
         for (call, numbers) in calls {
             for set in 0..1usize << numbers.len() {
-                let chosen: Vec<u64> = (0..numbers.len())
-                    .filter(|i| set >> i & 1 == 1)
-                    .map(|i| numbers[i])
-                    .collect();
+                let chosen = chosen(numbers, set);
                 for variant in 0..if call == SETUP { 3 } else { VARIANTS } {
                     self.order(call, &chosen, variant + set)?;
                 }
@@ -2165,29 +2207,32 @@ impl<W: Write> List<W> {
         Ok(())
     }
 
-    // Numbers 5 and 7 with what stands beside them: some threads too long, some operations bad, elsewhere each time.
+    // Lists with number 5 or 7: some threads too long, some operations bad, elsewhere each time.
+    fn long_or_bad(&mut self, k: usize) -> (State, Scripts) {
+        let threads = 2 + self.random.below(3);
+        let mut scripts: Vec<_> = (0..threads)
+            .map(|_| self.random.script(Place::Idle, k % 5, false, &[5]))
+            .collect();
+        for _ in 0..1 + self.random.below(3) {
+            let t = self.random.below(threads);
+            if k % 8 == 0 {
+                scripts[t].resize(65, (1, 0));
+            } else {
+                let at = self.random.below(scripts[t].len() + 1);
+                let bad = self
+                    .random
+                    .of(&[(0, 0), (8, 0), (9, 1), (1, 1), (7, 5), (u64::MAX, 0)]);
+                scripts[t].insert(at, bad);
+            }
+        }
+        let state = fresh_state(3, PREDS[1].0, 5, threads);
+        (state, Scripts::of(&scripts))
+    }
+
+    // What stands beside 5 and 7.
     fn beside(&mut self) -> io::Result<()> {
         for k in 0..40 {
-            let threads = 2 + self.random.below(3);
-            let mut scripts: Vec<_> = (0..threads)
-                .map(|_| self.random.script(Place::Idle, k % 5, false, &[5]))
-                .collect();
-            for _ in 0..1 + self.random.below(3) {
-                let t = self.random.below(threads);
-                if k % 8 == 0 {
-                    scripts[t].resize(65, (1, 0));
-                } else {
-                    let at = self.random.below(scripts[t].len() + 1);
-                    let bad =
-                        self.random
-                            .of(&[(0, 0), (8, 0), (9, 1), (1, 1), (7, 5), (u64::MAX, 0)]);
-                    scripts[t].insert(at, bad);
-                }
-            }
-            let (state, x) = (
-                fresh_state(3, PREDS[1].0, 5, threads),
-                Scripts::of(&scripts),
-            );
+            let (state, x) = self.long_or_bad(k);
             self.setup(13, &state, &x)?;
             self.run(13, &state, &x, 1)?;
             self.drain(13, &state, &x)?;
@@ -2247,11 +2292,7 @@ impl<W: Write> List<W> {
     fn drain_orders(&mut self) -> io::Result<()> {
         let numbers = [5, 6, 7, 10, 17];
         for set in 0..1usize << numbers.len() {
-            let chosen: Vec<u64> = (0..numbers.len())
-                .filter(|i| set >> i & 1 == 1)
-                .map(|i| numbers[i])
-                .collect();
-            let (s, x) = broken(&chosen, set);
+            let (s, x) = broken(&chosen(&numbers, set), set);
             self.order_of(&s, &x, |_| 0)?;
             self.order_of(&s, &x, |n| n + 4)?;
         }
@@ -2295,15 +2336,7 @@ impl<W: Write> List<W> {
         scripts: &Scripts,
         room: impl Fn(usize) -> usize,
     ) -> io::Result<Told> {
-        let mut d = Direct {
-            what: 14,
-            call: DRAIN,
-            state: state.clone(),
-            scripts: scripts.clone(),
-            schedule: Vec::new(),
-            budget: 0,
-            trace: Vec::new(),
-        };
+        let mut d = Direct::of(14, DRAIN, state, scripts);
         (d.call, d.trace) = (ORDER, marks(room(d.answer().n as usize)));
         self.put(&d)
     }
@@ -2344,6 +2377,20 @@ impl<W: Write> List<W> {
         Ok(())
     }
 
+    // A sound state, and the same bent in up to three things.
+    fn bent_one(&mut self, tried: usize) -> ((State, Scripts), (State, Scripts)) {
+        let (from, from_x) = if tried % 2 == 0 {
+            self.reached(tried % 4 == 0)
+        } else {
+            self.random.foreign()
+        };
+        let (mut s, mut x) = (from.clone(), from_x.clone());
+        for _ in 0..1 + self.random.below(3) {
+            self.random.bend(&mut s, &mut x);
+        }
+        ((from, from_x), (s, x))
+    }
+
     // Bent states: for each clause some in which it alone fails, with the state that was bent; and some in which more than one fails.
     fn clauses(&mut self) -> io::Result<()> {
         let mut alone = vec![Vec::new(); SOUND.len() + TIDY.len()];
@@ -2352,15 +2399,7 @@ impl<W: Write> List<W> {
             if alone.iter().all(|shapes| shapes.len() >= ALONE) {
                 break;
             }
-            let (from, from_x) = if tried % 2 == 0 {
-                self.reached(tried % 4 == 0)
-            } else {
-                self.random.foreign()
-            };
-            let (mut s, mut x) = (from.clone(), from_x.clone());
-            for _ in 0..1 + self.random.below(3) {
-                self.random.bend(&mut s, &mut x);
-            }
+            let ((from, from_x), (s, x)) = self.bent_one(tried);
             let fails = failing(&s, &x);
             if let [clause] = fails[..] {
                 if alone[clause].len() < ALONE && !alone[clause].contains(&shape(&s)) {
@@ -2421,7 +2460,8 @@ impl<W: Write> List<W> {
             eprintln!("access {code}: operation {op} from {from:?} to {to:?}: {n} entries");
         }
         let numbers = |counts: &[(u64, u64)]| counts.iter().map(|c| c.0).collect::<Vec<u64>>();
-        assert_eq!(numbers(&self.refused), [0, 1, 2, 3, 4, 5, 6, 7, 10, 17, 41]);
+        let of_calls = (0..=7).chain(10..=17).chain([41]);
+        assert!(numbers(&self.refused).into_iter().eq(of_calls));
         assert_eq!(numbers(&self.entries), [11, 12, 13, 14, 15, 16]);
         assert_eq!(self.ways.len(), 23, "the ways of an entry");
         let mut codes: Vec<u64> = self.ways.iter().map(|(way, _)| way.2).collect();
@@ -2449,7 +2489,8 @@ impl<W: Write> List<W> {
         let (line, from) = setup.line();
         self.wrong_in(&line, from + 3, line[from + 3] + 1)?;
         self.wrong_orders(setup)?;
-        self.wrong_exchanges()
+        self.wrong_exchanges()?;
+        self.wrong_whys()
     }
 
     // An exchange of rc and one of exc, done and failed: with the code of the other arm, and with the other got, by which a done one
@@ -2565,6 +2606,520 @@ fn shape(s: &State) -> u64 {
     bits << 8 | s.records.len() as u64
 }
 
+// ---------------------------------------------------------------------------------------------------------------------------------------
+// The lines that ask why.
+
+// A state in words: what the lock has, where that is not 0, and a record each. A record is its place, the operation that it is at, 0 for
+// the script's end, and where it is not 0 the value that it saw, at ReadTry, or that the operation puts, for 5. The flag, the count and
+// the cell follow.
+fn posed(text: &str) -> (State, Scripts) {
+    let (lock, records) = text.split_once(": ").expect("a lock and its records");
+    let (records, scripts): (Vec<_>, Vec<_>) = records.split(", ").map(posed_record).unzip();
+    let mut s = fresh_state(0, PREDS[1].0, 5, 0);
+    s.records = records;
+    for pair in lock.split(' ').collect::<Vec<&str>>().chunks_exact(2) {
+        let n = pair[1].parse().expect("a number");
+        match pair[0] {
+            "top" => s.top = n,
+            "reads" => s.reads = n,
+            "writes" => s.writes = n,
+            "mover" => s.mover = Some(n),
+            "finished" => s.finished = n == 1,
+            word => unreachable!("{word}"),
+        }
+    }
+    settle(&mut s);
+    (s, Scripts::of(&scripts))
+}
+
+fn posed_record(text: &str) -> (Record, Vec<(u64, u64)>) {
+    let words: Vec<&str> = text.split(' ').collect();
+    let named = |p: &Place| format!("{p:?}") == words[0];
+    let place = PLACES.into_iter().find(named).expect("a place");
+    let number = |i: usize| words.get(i).map_or(0, |w| w.parse().expect("a number"));
+    let (op, last) = (number(1), number(2));
+    let record = Record {
+        at: 0,
+        place,
+        seen: if place == Place::ReadTry { last } else { 0 },
+        taken: if place == Place::Writing { 5 } else { 0 },
+    };
+    let script = (op, if op == 5 { last } else { 0 });
+    (record, (op > 0).then_some(script).into_iter().collect())
+}
+
+// States that differ in one thing, and what goes with it, from the one before or from another of their block; the thread asked for; and
+// number, reason and record as the rules give them, written down by hand.
+type Posed = (&'static str, u64, [u64; 3]);
+
+#[rustfmt::skip]
+const COUNTS: [Posed; 26] = [
+    ("top 2: Idle 1, Reading 3, Reading 3", 0, [0, 1, 0]),
+    ("top 3: Idle 1, Reading 3, Reading 3", 0, [0, 0, 0]),
+    ("top 2: Idle 1, Reading 3, ReadBack 1", 0, [0, 1, 0]),
+    ("top 2: Idle 1, Reading 3, ReadTry 1 1", 0, [0, 0, 0]),
+    ("top 2: Idle 1, Reading 3, Idle 1", 0, [0, 0, 0]),
+    ("top 2 reads 1: Idle 1, Reading 3, Idle 1", 0, [0, 1, 0]),
+    ("top 2 reads 2: Idle 1", 0, [0, 1, 0]),
+    ("top 2 reads 1: Idle 1", 0, [0, 0, 0]),
+    ("top 3 reads 2: Idle 1", 0, [0, 0, 0]),
+    ("top 1 reads 1: Idle 1", 0, [0, 1, 0]),
+    ("top 1: Idle 1", 0, [0, 0, 0]),
+    // Another operation does not look at the count.
+    ("top 1 reads 1: Idle 4", 0, [0, 0, 0]),
+    ("top 1 reads 1: Idle 7", 0, [0, 0, 0]),
+    // A reader that sets out does not look at the flag.
+    ("top 2: Idle 1, ReadCheck 1, ReadBack 1, WriteWait 4", 0, [0, 1, 0]),
+    ("top 3: Idle 1, ReadCheck 1, ReadBack 1, WriteWait 4", 0, [0, 0, 0]),
+    ("top 3: ReadTry 1 0, Reading 3", 0, [0, 2, 0]),
+    ("top 3: ReadTry 1 1, Reading 3", 0, [0, 0, 0]),
+    ("top 3: ReadTry 1 2, Reading 3", 0, [0, 2, 0]),
+    ("top 3: ReadTry 1 1, Idle 1", 0, [0, 2, 0]),
+    ("top 3: ReadTry 1 0, Idle 1", 0, [0, 0, 0]),
+    ("top 3 reads 1: ReadTry 1 0, Idle 1", 0, [0, 2, 0]),
+    ("top 3 reads 1: ReadTry 1 1, Idle 1", 0, [0, 0, 0]),
+    ("top 3: ReadTry 1 0, WriteWait 4", 0, [0, 0, 0]),
+    ("top 3: ReadTry 1 1, WriteWait 4", 0, [0, 2, 0]),
+    // The count has come to M since it looked: the exchange tells that it changed.
+    ("top 1: ReadTry 1 0, Reading 3", 0, [0, 2, 0]),
+    ("top 1: ReadTry 1 0, ReadTry 1 0", 0, [0, 0, 0]),
+];
+
+#[rustfmt::skip]
+const FLAGS: [Posed; 31] = [
+    ("top 3: Idle 4, WriteWait 4", 0, [0, 3, 1]),
+    ("top 3: Idle 4, WriteTake 4", 0, [0, 3, 1]),
+    ("top 3: Idle 4, Writing 5 13", 0, [0, 3, 1]),
+    ("top 3: Idle 4, WritePut 5 13", 0, [0, 3, 1]),
+    ("top 3 writes 1: Idle 4, Idle 4", 0, [0, 4, 0]),
+    ("top 3: Idle 4, Idle 4", 0, [0, 0, 0]),
+    ("top 3 finished 1: Idle 4, Idle 4", 0, [13, 0, 0]),
+    ("top 3: WriteWait 4, Idle 4", 1, [0, 3, 0]),
+    ("top 3 writes 1: Idle 4, Idle 4", 1, [0, 4, 0]),
+    ("top 3: Idle 1, Writing 6, Idle 4", 2, [0, 3, 1]),
+    ("top 3 writes 1: Idle 1, Idle 6, Idle 4", 2, [0, 4, 0]),
+    ("top 3: ReadCheck 1, WriteWait 4", 0, [0, 3, 1]),
+    ("top 3: ReadCheck 1, WriteTake 4", 0, [0, 3, 1]),
+    ("top 3: ReadCheck 1, Writing 6", 0, [0, 3, 1]),
+    ("top 3: ReadCheck 1, WritePut 5 5", 0, [0, 3, 1]),
+    ("top 3 writes 1: ReadCheck 1, Idle 4", 0, [0, 4, 0]),
+    ("top 3: ReadCheck 1, Idle 4", 0, [0, 0, 0]),
+    ("top 3: WriteWait 4, ReadCheck 1", 1, [0, 3, 0]),
+    ("top 3: WriteWait 4, ReadBack 1", 1, [0, 0, 0]),
+    ("top 3: WriteWait 4, Reading 2", 1, [0, 0, 0]),
+    // Where another operation stands no flag is waited for.
+    ("top 3: WriteWait 4, Idle 1", 1, [0, 0, 0]),
+    ("top 3: WriteTake 4, Idle 4", 0, [0, 0, 0]),
+    ("top 3: Writing 5 13, Idle 4", 0, [0, 0, 0]),
+    ("top 3: WritePut 5 7, Idle 4", 0, [0, 0, 0]),
+    // into_inner beside a record that holds the flag is refused; beside a dropped handle it waits, begun or not.
+    ("top 3: Idle 7, WriteWait 4", 0, [15, 0, 0]),
+    ("top 3 writes 1: Idle 7, Idle 4", 0, [0, 4, 0]),
+    ("top 3 writes 1 mover 0: Idle 7, Idle 4", 0, [0, 4, 0]),
+    ("top 3 writes 1 mover 0: Idle 7, Idle 4", 1, [13, 0, 0]),
+    ("top 3 writes 1: Idle 7, Idle 7", 1, [0, 4, 0]),
+    ("top 3 mover 0: Idle 7, Idle 4", 0, [0, 0, 0]),
+    ("top 3: Idle 7, Idle 4", 0, [0, 0, 0]),
+];
+
+#[rustfmt::skip]
+const READERS_COUNTED: [Posed; 21] = [
+    ("top 3: WriteWait 4, Reading 3, Reading 3", 0, [0, 5, 1]),
+    ("top 3: WriteWait 4, Idle 3, Reading 3", 0, [0, 5, 2]),
+    ("top 3: WriteWait 4, ReadTry 1, Reading 3", 0, [0, 5, 2]),
+    ("top 3: WriteWait 4, ReadCheck 1, Reading 3", 0, [0, 5, 1]),
+    ("top 3: WriteWait 4, ReadBack 1, Reading 3", 0, [0, 5, 1]),
+    ("top 3: WriteWait 4, Idle 3, ReadBack 1", 0, [0, 5, 2]),
+    ("top 3: WriteWait 4, Idle 3, ReadCheck 1", 0, [0, 5, 2]),
+    ("top 3: WriteWait 4, Idle 3, Idle 3", 0, [0, 0, 0]),
+    ("top 3 reads 1: WriteWait 4, Idle 3, Idle 3", 0, [0, 6, 0]),
+    ("top 3 reads 2: WriteWait 4, Idle 3, Idle 3", 0, [0, 6, 0]),
+    ("top 3 reads 1: WriteWait 4, Idle 3, Reading 3", 0, [0, 5, 2]),
+    ("top 3 reads 1: WriteWait 4, Idle 3, ReadTry 1 1", 0, [0, 6, 0]),
+    ("top 3: WriteWait 4, Idle 3, ReadTry 1 1", 0, [0, 0, 0]),
+    ("top 3: Reading 3, WriteWait 4, ReadBack 1", 1, [0, 5, 0]),
+    ("top 3: Idle 1, WriteWait 4, ReadBack 1", 1, [0, 5, 2]),
+    ("top 3 reads 1: Idle 1, WriteWait 4, Idle 1", 1, [0, 6, 0]),
+    ("top 3: Idle 1, WriteTake 4, ReadCheck 1", 1, [0, 0, 0]),
+    ("top 3: Idle 4, Idle 4, Reading 3", 1, [0, 0, 0]),
+    ("top 3 reads 1 mover 1: Idle 1, WriteWait 7", 1, [0, 6, 0]),
+    ("top 3 mover 1: Idle 1, WriteWait 7", 1, [0, 0, 0]),
+    ("top 3 reads 1 mover 1: Idle 1, WriteWait 7", 0, [13, 0, 0]),
+];
+
+#[rustfmt::skip]
+const NEXT_REFUSED: [Posed; 34] = [
+    ("top 3: Idle 4", 1, [11, 0, 0]),
+    ("top 3: Idle 4", 16, [11, 0, 0]),
+    ("top 3: Idle 4", u64::MAX, [11, 0, 0]),
+    ("top 3 finished 1: Idle 4", u64::MAX, [11, 0, 0]),
+    ("top 3: Idle 4, Idle 0", 1, [12, 0, 0]),
+    ("top 3 writes 1: Idle 4, Idle 0", 1, [12, 0, 0]),
+    ("top 3 finished 1: Idle 4, Idle 0", 1, [12, 0, 0]),
+    ("top 3: Idle 4, Reading 0", 1, [12, 0, 0]),
+    ("top 3: Idle 4, Writing 0", 1, [12, 0, 0]),
+    ("top 3 mover 0: Idle 7, Idle 0", 1, [12, 0, 0]),
+    ("top 3 finished 1: Idle 1", 0, [13, 0, 0]),
+    ("top 3 finished 1: Idle 7", 0, [13, 0, 0]),
+    ("top 3 finished 1: Idle 2", 0, [13, 0, 0]),
+    ("top 3 mover 1: Idle 7, Idle 7", 0, [13, 0, 0]),
+    ("top 3 mover 1: Idle 3, WriteTake 7", 0, [13, 0, 0]),
+    ("top 3 mover 1: Idle 3, WriteTake 7", 1, [0, 0, 0]),
+    ("top 3 writes 1: Idle 2", 0, [14, 0, 0]),
+    ("top 1 reads 1: Idle 3", 0, [14, 0, 0]),
+    ("top 3 writes 1: Idle 5 13", 0, [14, 0, 0]),
+    ("top 3 writes 1: Idle 5 7", 0, [14, 0, 0]),
+    ("top 3: Idle 6, WriteWait 4", 0, [14, 0, 0]),
+    ("top 3: Reading 1, WriteWait 4", 0, [14, 0, 0]),
+    ("top 3: Reading 4, WriteWait 4", 0, [14, 0, 0]),
+    ("top 3: Reading 7, WriteWait 4", 0, [14, 0, 0]),
+    ("top 3: Writing 4", 0, [14, 0, 0]),
+    ("top 3: Writing 7, Idle 1", 0, [14, 0, 0]),
+    ("top 3: Idle 7, ReadTry 1", 0, [15, 0, 0]),
+    ("top 3: Idle 7, ReadBack 1", 0, [15, 0, 0]),
+    ("top 3: Idle 7, Idle 7, WriteWait 4", 1, [15, 0, 0]),
+    ("top 3 reads 1: Idle 7, Idle 1", 0, [0, 0, 0]),
+    ("top 3: Writing 5 7", 0, [16, 0, 0]),
+    ("top 3: Writing 5 13", 0, [0, 0, 0]),
+    ("top 3: Writing 6", 0, [0, 0, 0]),
+    ("top 3: Idle 1, ReadCheck 1, Writing 5 7", 2, [16, 0, 0]),
+];
+
+// The largest M, and dropped reads that bring the count up to it.
+#[rustfmt::skip]
+const LARGEST: [Posed; 11] = [
+    ("top 18446744073709551615 reads 18446744073709551615: Idle 1", 0, [0, 1, 0]),
+    ("top 18446744073709551615 reads 18446744073709551614: Idle 1", 0, [0, 0, 0]),
+    ("top 18446744073709551614 reads 18446744073709551614: Idle 1", 0, [0, 1, 0]),
+    ("top 18446744073709551615 reads 18446744073709551614: Idle 1, Reading 3", 0, [0, 1, 0]),
+    ("top 18446744073709551615 reads 18446744073709551615: ReadTry 1 18446744073709551614", 0, [0, 2, 0]),
+    ("top 18446744073709551615 reads 18446744073709551614: ReadTry 1 18446744073709551614", 0, [0, 0, 0]),
+    ("top 18446744073709551615 reads 18446744073709551615: ReadTry 1", 0, [0, 2, 0]),
+    ("top 18446744073709551615 reads 18446744073709551615: WriteWait 4, Idle 1", 0, [0, 6, 0]),
+    ("top 18446744073709551615 reads 18446744073709551614: WriteWait 4, ReadBack 1", 0, [0, 5, 1]),
+    ("top 18446744073709551615 reads 18446744073709551614: WriteWait 4, ReadCheck 1", 1, [0, 3, 0]),
+    ("top 18446744073709551615 reads 18446744073709551615 mover 0: WriteWait 7", 0, [0, 6, 0]),
+];
+
+// The fields of an answer from its start: the number and what stands beside it, the reason, the record; of the lock the flag, the count and
+// whether there is a mover; of the first record its script place, its place and the value seen.
+const NUMBER: usize = 0;
+const BESIDE_THREAD: usize = 1;
+const BESIDE_PLACE: usize = 2;
+const REASON: usize = 3;
+const WHO: usize = 4;
+const EXC_AFTER: usize = 5;
+const RC_AFTER: usize = 6;
+const MOVED_AFTER: usize = 15;
+const AT_AFTER: usize = 19;
+const PLACE_AFTER: usize = 20;
+const SEEN_AFTER: usize = 21;
+
+// A state, the thread asked for, a field of the answer, and what is wrong in it.
+#[rustfmt::skip]
+const WRONG_WHYS: [(&str, u64, usize, u64); 34] = [
+    // Count full at M - 1; not waiting where it waits.
+    ("top 3: Idle 1, Reading 3, Reading 3", 0, REASON, 1),
+    ("top 2: Idle 1, Reading 3, Reading 3", 0, REASON, 0),
+    ("top 3: ReadTry 1, Reading 3", 0, REASON, 0),
+    ("top 3: WriteWait 4, Idle 4", 1, REASON, 0),
+    ("top 3 writes 1: ReadCheck 1", 0, REASON, 0),
+    ("top 3: Reading 3, WriteWait 4", 1, REASON, 0),
+    ("top 3 reads 1: WriteWait 4", 0, REASON, 0),
+    // Count full where it changed and came to M; changed where it is full.
+    ("top 1: ReadTry 1, Reading 3", 0, REASON, 1),
+    ("top 1 reads 1: Idle 1", 0, REASON, 2),
+    // A dropped handle where a record holds the flag or is counted, a record where only dropped ones are, and the flag for the readers.
+    ("top 3: WriteWait 4, Idle 4", 1, REASON, 4),
+    ("top 3: Writing 5 13, ReadCheck 1", 1, REASON, 4),
+    ("top 3 writes 1: Idle 4", 0, REASON, 3),
+    ("top 3: ReadBack 1, WriteWait 4", 1, REASON, 6),
+    ("top 3 reads 1: Idle 1, WriteWait 4", 1, REASON, 5),
+    ("top 3: Reading 3, WriteWait 4", 1, REASON, 3),
+    // The highest reader in the place of the lowest, a record that does not hold the flag, and one where none is named.
+    ("top 3: WriteWait 4, ReadBack 1, Reading 3", 0, WHO, 2),
+    ("top 3: Idle 4, Idle 4, Writing 5 13", 0, WHO, 1),
+    ("top 3: Idle 4, WriteWait 4", 0, WHO, 0),
+    ("top 2: Idle 1, Reading 3, Reading 3", 0, WHO, 1),
+    ("top 3 writes 1: Idle 4, Idle 4", 0, WHO, 1),
+    // A reason for a refused step, a refused step that is told as accepted, an accepted one as refused, and other numbers.
+    ("top 3 finished 1: Idle 4", 0, REASON, 4),
+    ("top 3: WriteWait 4, Idle 7", 1, REASON, 3),
+    ("top 3: WriteWait 4, Idle 7", 1, NUMBER, 0),
+    ("top 3: Idle 4, WriteWait 4", 0, NUMBER, 15),
+    ("top 3 finished 1: Idle 0", 0, NUMBER, 13),
+    ("top 0: Idle 1", 1, NUMBER, 11),
+    ("top 3: Idle 4", 1, BESIDE_THREAD, 1),
+    ("top 3: Reading 1", 0, BESIDE_PLACE, 1),
+    // What the next step would do, done: into_inner begun, the flag taken, a reader counted, a record led on in one thing or another.
+    ("top 3 writes 1: Idle 7", 0, MOVED_AFTER, 1),
+    ("top 3: Idle 4", 0, EXC_AFTER, 1),
+    ("top 3: ReadTry 1", 0, RC_AFTER, 1),
+    ("top 3: ReadCheck 1, WriteWait 4", 0, PLACE_AFTER, 3),
+    ("top 3: ReadTry 1 2, Reading 3", 0, SEEN_AFTER, 0),
+    ("top 3: Reading 2", 0, AT_AFTER, 1),
+];
+
+// Sixteen records at operation 4, but for these.
+fn sixteen(others: &[(usize, &str)]) -> (State, Scripts) {
+    let mut records = vec!["Idle 4"; 16];
+    for (i, record) in others {
+        records[*i] = record;
+    }
+    posed(&format!("top 16: {}", records.join(", ")))
+}
+
+// What a line that asks why touches. The order is that of the report.
+#[derive(Clone, Copy, PartialEq, Eq, PartialOrd, Ord)]
+struct Touch {
+    number: u64,
+    reason: u64,
+    // Where the thread stands, and its operation; none where there is no such thread, or the call is refused.
+    stands: Option<(Place, u64)>,
+    // Where the record beside the reason stands.
+    blamed: Option<Place>,
+    source: Source,
+}
+
+// Where the state of such a line is from: written down by hand, made to be refused, led to by a schedule from setup, or sound and drawn
+// without one.
+#[derive(Clone, Copy, PartialEq, Eq, PartialOrd, Ord, Debug)]
+enum Source {
+    Posed,
+    Broken,
+    Reached,
+    Foreign,
+}
+
+impl Touch {
+    fn of(d: &Direct, told: &Told, source: Source) -> Touch {
+        let place = |i: u64| {
+            let i = usize::try_from(i).ok()?;
+            d.state.records.get(i).map(|r| (i, r.place, r.at))
+        };
+        let (number, reason) = (told.refused.0, told.n);
+        let names_one = reason == 3 || reason == 5;
+        let thread = place(d.schedule[0]).filter(|_| number == 0 || number > 10);
+        let op = |i: usize, at: u64| d.scripts.op(i, at).map_or(0, |x| x.0);
+        Touch {
+            number,
+            reason,
+            stands: thread.map(|(i, p, at)| (p, op(i, at))),
+            blamed: place(told.done).filter(|_| names_one).map(|x| x.1),
+            source,
+        }
+    }
+
+    // How many lines there are to be of its kind: the more the fewer kinds its number or reason has.
+    fn enough(&self) -> u64 {
+        match (self.number, self.reason) {
+            (0, 1 | 2) => 30,
+            (0, 5 | 6) => 12,
+            (0, 3 | 4) | (11 | 15 | 16, _) => 8,
+            _ => 4,
+        }
+    }
+
+    fn text(&self) -> String {
+        let stands = self.stands.map_or(String::new(), |(place, op)| {
+            format!(", {place:?} at operation {op}")
+        });
+        let blamed = self
+            .blamed
+            .map_or(String::new(), |p| format!(", for one at {p:?}"));
+        let (number, reason) = (self.number, self.reason);
+        format!(
+            "number {number}, reason {reason}{stands}{blamed}, {:?}",
+            self.source
+        )
+    }
+}
+
+impl<W: Write> List<W> {
+    fn whys(&mut self) -> io::Result<()> {
+        self.whys_of_posed()?;
+        self.whys_of_sixteen()?;
+        self.whys_refused()?;
+        self.whys_of_counts()?;
+        self.whys_of_unsound()?;
+        self.whys_of_states(Source::Reached)?;
+        self.whys_of_states(Source::Foreign)
+    }
+
+    fn why(&mut self, s: &State, x: &Scripts, thread: u64, from: Source) -> io::Result<[u64; 3]> {
+        let d = Direct::asking(ASKED, s, x, thread);
+        let told = self.put(&d)?;
+        let touch = Touch::of(&d, &told, from);
+        count_up(&mut self.touches, touch);
+        count_up(&mut self.reasons, (touch.number, touch.reason, from));
+        if touch.blamed.is_some() {
+            count_up(&mut self.blamed, (told.n, told.done));
+        }
+        Ok([told.refused.0, told.n, told.done])
+    }
+
+    fn whys_of_posed(&mut self) -> io::Result<()> {
+        let blocks: [&[Posed]; 5] = [&COUNTS, &FLAGS, &READERS_COUNTED, &NEXT_REFUSED, &LARGEST];
+        for (text, thread, expected) in blocks.concat() {
+            let (s, x) = posed(text);
+            let told = self.why(&s, &x, thread, Source::Posed)?;
+            assert_eq!(told, expected, "{text}, thread {thread}");
+        }
+        Ok(())
+    }
+
+    // The most threads, with the record beside the reason at each end of them and within.
+    fn whys_of_sixteen(&mut self) -> io::Result<()> {
+        for (i, k) in [(0, 15), (15, 0), (7, 8), (8, 7)] {
+            let (asked, other) = (k as u64, i as u64);
+            let (s, x) = sixteen(&[(i, "WriteWait 4")]);
+            assert_eq!(self.why(&s, &x, asked, Source::Posed)?, [0, 3, other]);
+            assert_eq!(self.why(&s, &x, 16, Source::Posed)?, [11, 0, 0]);
+            let (s, x) = sixteen(&[(i, "Reading 3"), (k, "WriteWait 4")]);
+            assert_eq!(self.why(&s, &x, asked, Source::Posed)?, [0, 5, other]);
+            assert_eq!(self.why(&s, &x, other, Source::Posed)?, [0, 0, 0]);
+            let (s, x) = sixteen(&[(i, "ReadBack 1"), (3, "WriteWait 4"), (k, "ReadCheck 1")]);
+            assert_eq!(
+                self.why(&s, &x, 3, Source::Posed)?,
+                [0, 5, other.min(asked)]
+            );
+        }
+        Ok(())
+    }
+
+    // Run's numbers in their order, and what stands beside 5 and 7. The thread asked for makes no difference.
+    fn whys_refused(&mut self) -> io::Result<()> {
+        let numbers = [5, 6, 7, 10];
+        for k in 0..VARIANTS << numbers.len() {
+            let set = k / VARIANTS;
+            let (s, x) = broken(&chosen(&numbers, set), k % VARIANTS + set);
+            let thread = [0, 1, x.count(), u64::MAX][k % 4];
+            self.why(&s, &x, thread, Source::Broken)?;
+        }
+        for k in 0..24 {
+            let (s, x) = self.long_or_bad(k);
+            self.why(&s, &x, k as u64 % 5, Source::Broken)?;
+        }
+        Ok(())
+    }
+
+    // So many records for so many scripts.
+    fn whys_of_counts(&mut self) -> io::Result<()> {
+        for (records, scripts) in [
+            (0, 0),
+            (1, 0),
+            (0, 1),
+            (1, 1),
+            (2, 1),
+            (1, 2),
+            (15, 16),
+            (16, 16),
+            (17, 16),
+            (16, 17),
+            (17, 17),
+            (20, 20),
+            (20, 2),
+        ] {
+            let s = fresh_state(3, PREDS[1].0, 5, records);
+            let x = Scripts::of(&vec![vec![(1, 0)]; scripts]);
+            self.why(&s, &x, scripts.max(1) as u64 - 1, Source::Broken)?;
+        }
+        Ok(())
+    }
+
+    // States in which one clause of SOUND alone fails, some for each.
+    fn whys_of_unsound(&mut self) -> io::Result<()> {
+        let (mut times, enough) = ([0; SOUND.len()], [3; SOUND.len()]);
+        for tried in 0..100_000 {
+            if times == enough {
+                break;
+            }
+            let (_, (s, x)) = self.bent_one(tried);
+            if let [clause] = unsound(&s, &x)[..] {
+                if times[clause] < enough[clause] {
+                    times[clause] += 1;
+                    let thread = self.random.below(s.records.len() + 1) as u64;
+                    let told = self.why(&s, &x, thread, Source::Broken)?;
+                    assert_eq!(told, [10, 0, 0], "{}", SOUND[clause]);
+                }
+            }
+        }
+        assert_eq!(times, enough, "each clause by itself");
+        Ok(())
+    }
+
+    // One thread of each state, as long as there are not enough lines of its kind.
+    fn whys_of_states(&mut self, source: Source) -> io::Result<()> {
+        for _ in 0..30_000 {
+            let most = self.random.of(&[2, 3, 4, 16]);
+            let (s, x) = match source {
+                Source::Reached => self.reached_by(most, true),
+                _ => self.random.foreign_of(most),
+            };
+            if let Some(thread) = self.wanted(&s, &x, source) {
+                self.why(&s, &x, thread, source)?;
+            }
+        }
+        Ok(())
+    }
+
+    // Any thread of a kind that is wanted, one past the last and the largest number too.
+    fn wanted(&mut self, s: &State, x: &Scripts, source: Source) -> Option<u64> {
+        let mut threads: Vec<u64> = (0..x.count()).chain([x.count(), u64::MAX]).collect();
+        let first = self.random.below(threads.len());
+        threads.rotate_left(first);
+        threads.into_iter().find(|thread| {
+            let d = Direct::asking(ASKED, s, x, *thread);
+            let touch = Touch::of(&d, &d.answer(), source);
+            let times = self.touches.iter().find(|t| t.0 == touch);
+            times.map_or(0, |t| t.1) < touch.enough()
+        })
+    }
+
+    // Each in the field that is named, and one with a word in the list that stays empty.
+    fn wrong_whys(&mut self) -> io::Result<()> {
+        let line_of = |text: &str, thread: u64| {
+            let (s, x) = posed(text);
+            Direct::asking(WRONG, &s, &x, thread).line()
+        };
+        for (text, thread, field, to) in WRONG_WHYS {
+            let (line, from) = line_of(text, thread);
+            assert_ne!(line[from + field], to, "{text}");
+            self.wrong_in(&line, from + field, to)?;
+        }
+        let (mut line, _) = line_of("top 3: Idle 4, WriteWait 4", 0);
+        line.push(0);
+        let words = line.len() - 2;
+        self.wrong_in(&line, words, 1)
+    }
+
+    // What those lines touch. It has to be, from states of both kinds, every way to wait and not to wait: the 16 next steps of the table,
+    // done; 1 and 13, failed; the flag held at four places, for 3 and for 14 of operation 4; the flag of a dropped handle, for these and
+    // for 14 of operation 7; readers at three places, for 8 of operation 4; and dropped reads, for 8 of operations 4 and 7.
+    fn touched_by_whys(&mut self) {
+        self.touches.sort_unstable();
+        self.reasons.sort_unstable();
+        self.blamed.sort_unstable();
+        for (touch, n) in &self.touches {
+            eprintln!("why: {}: {n} lines", touch.text());
+        }
+        for ((reason, who), n) in &self.blamed {
+            eprintln!("why: reason {reason} with record {who}: {n} lines");
+        }
+        for ((number, reason, source), n) in &self.reasons {
+            eprintln!("why, in all: number {number}, reason {reason}, {source:?}: {n} lines");
+        }
+        for source in [Source::Reached, Source::Foreign] {
+            let ways = self.touches.iter().map(|t| t.0);
+            let ways = ways.filter(|t| t.number == 0 && t.source == source);
+            assert_eq!(ways.count(), 16 + 2 + 8 + 3 + 3 + 2, "the ways");
+        }
+    }
+}
+
+// ---------------------------------------------------------------------------------------------------------------------------------------
+// The list as a whole, and the words that the program is started with.
+
 const DIRECT_HEADER: &str = "what,call,lock,records,lengths,operations,values,schedule,budget,trace,number,thread,place,n,done,lock,records,trace";
 
 fn direct(out: impl Write) -> io::Result<()> {
@@ -2575,6 +3130,9 @@ fn direct(out: impl Write) -> io::Result<()> {
         refused: Vec::new(),
         entries: Vec::new(),
         ways: Vec::new(),
+        touches: Vec::new(),
+        reasons: Vec::new(),
+        blamed: Vec::new(),
     };
     writeln!(list.out, "{DIRECT_HEADER}")?;
     list.orders()?;
@@ -2588,8 +3146,10 @@ fn direct(out: impl Write) -> io::Result<()> {
     list.largest()?;
     list.beside()?;
     list.drain_orders()?;
+    list.whys()?;
     list.wrong()?;
     list.touched();
+    list.touched_by_whys();
     list.out.flush()
 }
 

@@ -1,7 +1,8 @@
 #!/bin/sh
 # Compares a program with the second program, oracle/lock.rs, on every scenario file that oracle/scenarios.rs makes, byte for byte.
-# usage: tests/compare.sh [-d] [-f FAMILY] [-e EVERY] [-w WORKERS] [PROGRAM [WORD...]]
+# usage: tests/compare.sh [-d | -y] [-f FAMILY] [-e EVERY] [-w WORKERS] [PROGRAM [WORD...]]
 #   -d                      compares what `drain` prints, by program_drain and program_run in a pipe as the command has them
+#   -y                      compares what `why` prints; the program is target/bin/program_why where none is given
 #   PROGRAM and its words   a path from the repository's root; reads a scenario on standard input and prints its trace; target/bin/program_run where none is given. A program
 #                           under target/bin is run as rt runs it, under the kit's emulator where the machine is not x86-64
 #   -f FAMILY               takes one family of files only, as `scenarios.rs` names them (all)
@@ -13,12 +14,13 @@
 set -eu
 cd "$(dirname "$0")/.."
 family=all
-drain=
+word=run
 every=1
 workers=2
-while getopts df:e:w: option; do
+while getopts dyf:e:w: option; do
     case $option in
-    d) drain=yes ;;
+    d) word=drain ;;
+    y) word=why ;;
     f) family=$OPTARG ;;
     e) every=$OPTARG ;;
     w) workers=$OPTARG ;;
@@ -26,7 +28,12 @@ while getopts df:e:w: option; do
     esac
 done
 shift $((OPTIND - 1))
-[ $# -gt 0 ] || set -- target/bin/program_run
+# The pipe that drain needs is made below, of program_run and another.
+case $word in
+why) program=target/bin/program_why ;;
+*) program=target/bin/program_run ;;
+esac
+[ $# -gt 0 ] || set -- "$program"
 case $1 in
 */*)
     [ -x "$1" ] || {
@@ -44,10 +51,13 @@ mkdir -p target/compare
 rustc -O --edition 2021 oracle/lock.rs -o target/compare/lock
 rustc -O --edition 2021 oracle/scenarios.rs -o target/compare/scenarios
 second=target/compare/lock
-if [ -n "$drain" ]; then
+if [ "$word" != run ]; then
     second=target/compare/second
     # It is started with the word run.
-    printf '#!/bin/sh\nexec target/compare/lock drain\n' >"$second"
+    printf '#!/bin/sh\nexec target/compare/lock %s\n' "$word" >"$second"
+    chmod +x "$second"
+fi
+if [ "$word" = drain ]; then
     cat >target/compare/drain <<'END'
 #!/bin/sh
 # The last line is what program_drain says.
@@ -55,7 +65,7 @@ if [ -n "$drain" ]; then
 { said=$({ run target/bin/program_drain 2>&3 4>&- | run target/bin/program_run 2>/dev/null >&4; } 3>&1); } 4>&1
 [ -z "$said" ] || printf '%s\n' "$said"
 END
-    chmod +x "$second" target/compare/drain
+    chmod +x target/compare/drain
     set -- target/compare/drain
 fi
 case $1 in
