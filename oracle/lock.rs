@@ -1493,8 +1493,9 @@ impl Direct {
         (line.0, from)
     }
 
-    fn answer(&self) -> Told {
-        let mut told = Told {
+    // All that is lent, as it is; a setup that changes nothing has made no lock.
+    fn unchanged(&self) -> Told {
+        Told {
             refused: (0, 0, 0),
             n: 0,
             done: 0,
@@ -1502,7 +1503,11 @@ impl Direct {
             records: self.state.records.clone(),
             trace: self.trace.clone(),
             ways: Vec::new(),
-        };
+        }
+    }
+
+    fn answer(&self) -> Told {
+        let mut told = self.unchanged();
         if let Some(refused) = self.refusal() {
             told.refused = refused;
             return told;

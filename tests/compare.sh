@@ -2,7 +2,8 @@
 # Compares a program with the second program, oracle/lock.rs, on every scenario file that oracle/scenarios.rs makes, byte for byte.
 # usage: tests/compare.sh [-d | -y] [-f FAMILY] [-e EVERY] [-w WORKERS] [PROGRAM [WORD...]]
 #   -d                      compares what `drain` prints, by program_drain and program_run in a pipe as the command has them
-#   -y                      compares what `why` prints; the program is target/bin/program_why where none is given
+#   -y                      compares what `why` prints; the program is target/bin/program_why where none is given. The files of plays and
+#                           triples end with all scripts at their end, so that every answer is 12 there
 #   PROGRAM and its words   a path from the repository's root; reads a scenario on standard input and prints its trace; target/bin/program_run where none is given. A program
 #                           under target/bin is run as rt runs it, under the kit's emulator where the machine is not x86-64
 #   -f FAMILY               takes one family of files only, as `scenarios.rs` names them (all)
