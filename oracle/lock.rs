@@ -2753,10 +2753,12 @@ const READERS_COUNTED: [Posed; 21] = [
 ];
 
 #[rustfmt::skip]
-const NEXT_REFUSED: [Posed; 34] = [
+const NEXT_REFUSED: [Posed; 36] = [
     ("top 3: Idle 4", 1, [11, 0, 0]),
     ("top 3: Idle 4", 16, [11, 0, 0]),
     ("top 3: Idle 4", u64::MAX, [11, 0, 0]),
+    ("top 3 writes 1: Idle 4", 256, [11, 0, 0]),
+    ("top 3 writes 1: Idle 4", 4_294_967_296, [11, 0, 0]),
     ("top 3 finished 1: Idle 4", u64::MAX, [11, 0, 0]),
     ("top 3: Idle 4, Idle 0", 1, [12, 0, 0]),
     ("top 3 writes 1: Idle 4, Idle 0", 1, [12, 0, 0]),
@@ -2790,9 +2792,9 @@ const NEXT_REFUSED: [Posed; 34] = [
     ("top 3: Idle 1, ReadCheck 1, Writing 5 7", 2, [16, 0, 0]),
 ];
 
-// The largest M, and dropped reads that bring the count up to it.
+// The largest M, and dropped reads that bring the count up to it; then counts that are alike in their lower half alone.
 #[rustfmt::skip]
-const LARGEST: [Posed; 11] = [
+const LARGEST: [Posed; 16] = [
     ("top 18446744073709551615 reads 18446744073709551615: Idle 1", 0, [0, 1, 0]),
     ("top 18446744073709551615 reads 18446744073709551614: Idle 1", 0, [0, 0, 0]),
     ("top 18446744073709551614 reads 18446744073709551614: Idle 1", 0, [0, 1, 0]),
@@ -2804,6 +2806,11 @@ const LARGEST: [Posed; 11] = [
     ("top 18446744073709551615 reads 18446744073709551614: WriteWait 4, ReadBack 1", 0, [0, 5, 1]),
     ("top 18446744073709551615 reads 18446744073709551614: WriteWait 4, ReadCheck 1", 1, [0, 3, 0]),
     ("top 18446744073709551615 reads 18446744073709551615 mover 0: WriteWait 7", 0, [0, 6, 0]),
+    ("top 4294967297 reads 1: Idle 1", 0, [0, 0, 0]),
+    ("top 4294967297 reads 4294967297: Idle 1", 0, [0, 1, 0]),
+    ("top 4294967298 reads 1: ReadTry 1 4294967297", 0, [0, 2, 0]),
+    ("top 4294967298 reads 4294967297: ReadTry 1 4294967297", 0, [0, 0, 0]),
+    ("top 4294967298 reads 4294967296: WriteWait 4", 0, [0, 6, 0]),
 ];
 
 // The fields of an answer from its start: the number and what stands beside it, the reason, the record; of the lock the flag, the count and
