@@ -2872,6 +2872,12 @@ const WRONG_WHYS: [(&str, u64, usize, u64); 34] = [
     ("top 3: Reading 2", 0, AT_AFTER, 1),
 ];
 
+fn report<K>(counts: &[(K, u64)], text: impl Fn(&K) -> String) {
+    for (key, n) in counts {
+        eprintln!("why: {}: {n} lines", text(key));
+    }
+}
+
 // Sixteen records at operation 4, but for these.
 fn sixteen(others: &[(usize, &str)]) -> (State, Scripts) {
     let mut records = vec!["Idle 4"; 16];
@@ -2952,6 +2958,7 @@ impl<W: Write> List<W> {
         self.whys_of_posed()?;
         self.whys_of_sixteen()?;
         self.whys_refused()?;
+        self.whys_of_lists()?;
         self.whys_of_counts()?;
         self.whys_of_unsound()?;
         self.whys_of_states(Source::Reached)?;
@@ -2999,7 +3006,7 @@ impl<W: Write> List<W> {
         Ok(())
     }
 
-    // Run's numbers in their order, and what stands beside 5 and 7. The thread asked for makes no difference.
+    // Run's numbers in their order. Where one applies, it makes no difference which thread is asked for.
     fn whys_refused(&mut self) -> io::Result<()> {
         let numbers = [5, 6, 7, 10];
         for k in 0..VARIANTS << numbers.len() {
@@ -3008,6 +3015,11 @@ impl<W: Write> List<W> {
             let thread = [0, 1, x.count(), u64::MAX][k % 4];
             self.why(&s, &x, thread, Source::Broken)?;
         }
+        Ok(())
+    }
+
+    // What stands beside 5 and 7.
+    fn whys_of_lists(&mut self) -> io::Result<()> {
         for k in 0..24 {
             let (s, x) = self.long_or_bad(k);
             self.why(&s, &x, k as u64 % 5, Source::Broken)?;
@@ -3088,7 +3100,7 @@ impl<W: Write> List<W> {
         })
     }
 
-    // Each in the field that is named, and one with a word in the list that stays empty.
+    // The lines of WRONG_WHYS, and one with a word in the list that stays empty.
     fn wrong_whys(&mut self) -> io::Result<()> {
         let line_of = |text: &str, thread: u64| {
             let (s, x) = posed(text);
@@ -3112,15 +3124,13 @@ impl<W: Write> List<W> {
         self.touches.sort_unstable();
         self.reasons.sort_unstable();
         self.blamed.sort_unstable();
-        for (touch, n) in &self.touches {
-            eprintln!("why: {}: {n} lines", touch.text());
-        }
-        for ((reason, who), n) in &self.blamed {
-            eprintln!("why: reason {reason} with record {who}: {n} lines");
-        }
-        for ((number, reason, source), n) in &self.reasons {
-            eprintln!("why, in all: number {number}, reason {reason}, {source:?}: {n} lines");
-        }
+        report(&self.touches, Touch::text);
+        report(&self.blamed, |(reason, who)| {
+            format!("reason {reason} with record {who}")
+        });
+        report(&self.reasons, |(number, reason, source)| {
+            format!("in all number {number}, reason {reason}, {source:?}")
+        });
         for source in [Source::Reached, Source::Foreign] {
             let ways = self.touches.iter().map(|t| t.0);
             let ways = ways.filter(|t| t.number == 0 && t.source == source);
