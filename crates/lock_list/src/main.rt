@@ -1,4 +1,5 @@
-// Replays the list on standard input against setup, run, drain and the entries of the drain order, and prints how many of its calls agree.
+// Replays the list on standard input against setup, run, drain, the entries of the drain order and the question why a thread waits, and prints how
+// many of its calls agree.
 //
 // oracle/lock.rs makes the list and says what its fields are: each line is one call with all that is lent and all that comes back. The
 // last lines are wrong on purpose, and each of them has to be found. Nothing of the list is passed over: a line that cannot be read, and
@@ -166,6 +167,9 @@ fn made(line: &[u64], p: Parts, given: Given, is_lent: bool, trace: &mut [u64]) 
     if call == ORDER {
         return ordered(line, p, given, trace);
     }
+    if call == WHY {
+        return asked(line, p, given);
+    }
     if is_lent {
         return match call {
             SETUP => set_up_lent(line, p, given),
@@ -322,6 +326,32 @@ fn ordered(line: &[u64], p: Parts, given: Given, out: &mut [u64]) -> Told {
     told_by(true, refusal, left.n, left.bound, lock, recs)
 }
 
+// Of the thread that stands in the schedule's place, with the records by value: covered code cannot lend a list of them. The reason's number stands
+// where a run has n, and the record's where it has its rows with answer 0.
+fn asked(line: &[u64], p: Parts, given: Given) -> Told {
+    let lock = given.lock;
+    let recs = given.recs;
+    let told = why_code::why(
+        lens_of(line, p),
+        ops_of(line, p),
+        vals_of(line, p),
+        lock,
+        recs,
+        given.count,
+        word(schedule_of(line, p), 0),
+    );
+    let numbers = why_code::numbers_of(told);
+    let refusal = refusal_in(told);
+    told_by(true, refusal, numbers.reason, numbers.who, lock, recs)
+}
+
+fn refusal_in(told: why::Told) -> Refusal {
+    match told {
+        why::Told::Refused(no) => no,
+        why::Told::Given(_) => not_refused(),
+    }
+}
+
 fn not_refused() -> Refusal {
     Refusal {
         number: 0,
@@ -387,6 +417,8 @@ const DRAIN: u64 = 3;
 
 const ORDER: u64 = 4;
 
+const WHY: u64 = 5;
+
 // The number of the last place, WritePut. Numbers above it name no place.
 const LAST_PLACE: u64 = 8;
 
@@ -438,7 +470,7 @@ fn call_on(line: &[u64], p: Parts, lock: Lock) -> Given {
 }
 
 fn is_call(call: u64) -> bool {
-    call == SETUP || call == RUN || call == DRAIN || call == ORDER
+    call == SETUP || call == RUN || call == DRAIN || call == ORDER || call == WHY
 }
 
 // The flag, whether the cell is full, whether there is a mover and whether the lock is finished are 1 or 0; where there is no mover, its
