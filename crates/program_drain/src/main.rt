@@ -10,7 +10,6 @@ use lock_words::names::NONE;
 use program_chunks::Input;
 use program_intake::Came;
 use program_intake::Intake;
-use scenario_pieces::Standing;
 use scenario_read::Stop;
 
 // So many bytes of text are written at once; behind them the list has room for a line.
@@ -212,7 +211,7 @@ fn drain(
     }
     let state = intake.state;
     let read = state.read;
-    let standing = standing_of(intake);
+    let standing = program_intake::standing_of(intake);
     let lock = standing.lock;
     let recs = standing.recs;
     let answer = lock_order::drain_order(
@@ -233,17 +232,6 @@ fn drain(
     if write_lines(within, order, answer.n, out) {
         say_drained(answer.n, answer.bound, out);
     }
-}
-
-// The lock is set up when the first entry comes, so a scenario without a run line is drained as it is set up.
-fn standing_of(intake: Intake) -> Standing {
-    let state = intake.state;
-    let read = state.read;
-    let pred = read.pred;
-    if state.stood {
-        return intake.standing;
-    }
-    scenario_pieces::at_first(pred, read.top, read.first)
 }
 
 // A run line for each of the first n entries, on lines of their own.

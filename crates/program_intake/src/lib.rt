@@ -5,6 +5,7 @@ ghost use mathlib.Core.Bool.{_||_};
 ghost use lib.ListN.{length};
 ghost use Rattle.program_chunks.specs.Chunks.{stays};
 ghost use Rattle.scenario_read.specs.Code.{fedOf};
+ghost use Rattle.scenario_promises.specs.Piped.{standingOf};
 ghost use Rattle.program_intake.specs.Intake.{nothingTaken, failed, turned, cameOf, InHand};
 use cell::pred::Pred;
 use libc::STDIN_FILENO;
@@ -109,6 +110,19 @@ pub fn take_more(
         0,
     );
     hand_on(input, fed, rows.len())
+}
+
+// The lock is set up when the first entry comes, so without a run line it stands as it would be set up.
+pub fn standing_of(intake: Intake) -> Standing
+    ensures { λ r. ⌜ r ≡ standingOf (intake .state) (intake .standing) ⌝ }
+{
+    let state = intake.state;
+    let read = state.read;
+    let pred = read.pred;
+    if state.stood {
+        return intake.standing;
+    }
+    scenario_pieces::at_first(pred, read.top, read.first)
 }
 
 fn hand_on(input: Input, fed: Fed, room: usize) -> Came

@@ -37,9 +37,12 @@ endOfFile file = cond (eqb (readingOf file .refused) 0) Over (Refused (readingOf
 abbrev pub leftByFile : List ℕ → Listed
 leftByFile file = let s = readingOf file .scenario in afterPiece (s .lent) (atFirst s) (s .schedule)
 
--- the standing in w, or, before the first entry, the one that the lock is set up with
+-- the standing, or, before the first entry, the one that the lock is set up with
+abbrev pub standingOf : State → Standing → Standing
+standingOf s p = cond (s .stood) p (firstOf (s .read .pred) (s .read .top) (s .read .first))
+
 abbrev pub standingIn : World → Standing
-standingIn w = let r = w .state .read in cond (w .state .stood) (w .standing) (firstOf (r .pred) (r .top) (r .first))
+standingIn w = standingOf (w .state) (w .standing)
 
 -- `words` are the words of all its rows, and w is what they leave
 pub record ComesTo (file words : List ℕ) (w : World) : Type 0 where
