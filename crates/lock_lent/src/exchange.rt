@@ -34,7 +34,7 @@ pub fn at_most_sixteen(n: usize) -> usize
 }
 
 // Sixteen records as setup makes them, to take out against.
-pub(crate) fn blank() -> [Rec; 16]
+pub fn blank() -> [Rec; 16]
     ensures { λ r. ⌜ r ≡ fresh 16 ⌝ }
 {
     [Rec {
