@@ -48,7 +48,7 @@ module _ (l : List Rec) where
     all-shared = omega (arith, few)
 
     -- all records are in the array
-    taken-first : take (length l) (taken l) ≡ l
+    pub taken-first : take (length l) (taken l) ≡ l
     taken-first = rw (all-shared, take-length l) (take-at l _ (length l) refl)
 
     -- the list with as many records put back is those records
@@ -114,7 +114,7 @@ module _ (s : Lent) (L : Lock) (l : List Rec) where
   back-refused : back l (putBack (length l) (taken l) (take (length l) (taken l))) ≡ l
   back-refused = rw (take-append-drop (length l) (taken l)) (back-taken l)
 
-  few-of-run : runRefusal s L l ≡ 0 → length l ≤ 16
+  pub few-of-run : runRefusal s L l ≡ 0 → length l ≤ 16
   few-of-run none = let (same, ready) = none-refused s (length l) L (taken l) (same-refusal s L l ∙ none) in omega (arith, same, ready .threads)
 
   module _ (schedule : List ℕ) (budget : ℕ) (trace : List ℕ) where

@@ -165,18 +165,19 @@ module _ {M : Type 1} (𝓤 : URA M) (H : Heap 𝓤) (A : Atoms 𝓤) (W : Given
     abbrev En : Env 𝓤 H
     En = (τ, l₀) ∷ (slice, l₁) ∷ (word, l₂) ∷ (τ, l₃) ∷ (word, l₄) ∷ (word, l₅) ∷ (τ, l₆) ∷ (tyBool, l₇) ∷ (word, l₈) ∷ (tyPtr, l₉) ∷ (R′.mir, l₁₀) ∷ (word, l₁₁) ∷ (tyPtr, l₁₂) ∷ (tyPtr, l₁₃) ∷ []
 
-    -- the invariant: the list at a share and the array's records after j turns; the locals, of which the test's and those of a turn hold
-    -- nothing; the borrow that is looked into; and what is kept for the exit
-    abbrev At : Upto → List (Item 𝓤)
-    At j = ‵ (row R.the-row q′ ys b o) ∷ ‵ (row R.the-row fullShare (out (j .0)) l₃ 0)
-        ∷ ‵ (froom tyPtr l₁₃ 0) ∷ ‵ (fdies tyPtr l₁₃) ∷ ‵ (froom tyPtr l₁₂ 0) ∷ ‵ (fdies tyPtr l₁₂) ∷ ‵ (froom word l₁₁ 0) ∷ ‵ (fdies word l₁₁) ∷ ‵ (froom R′.mir l₁₀ 0) ∷ ‵ (fdies R′.mir l₁₀) ∷ ‵ (froom tyPtr l₉ 0) ∷ ‵ (fdies tyPtr l₉) ∷ ‵ (froom word l₈ 0) ∷ ‵ (fdies word l₈) ∷ ‵ (froom tyBool l₇ 0) ∷ ‵ (fdies tyBool l₇) ∷ ‵ (fat fullShare τ l₆ 0 (aval xs)) ∷ ‵ (fdies τ l₆) ∷ ‵ (fat fullShare word l₅ 0 (vint w64 (length ys))) ∷ ‵ (fdies word l₅) ∷ ‵ (fat fullShare word l₄ 0 (vint w64 (j .0))) ∷ ‵ (fdies word l₄) ∷ ‵ (fdies τ l₃) ∷ ‵ (fat fullShare word l₂ 0 (vint w64 n)) ∷ ‵ (fdies word l₂) ∷ ‵ (fat fullShare slice l₁ 0 (sv)) ∷ ‵ (fdies slice l₁) ∷ ‵ (froom τ l₀ 0) ∷ ‵ (fdies τ l₀)
+    -- after j turns: the list at a share, and the array's records; the locals, of which those of a turn hold nothing; the borrow that is
+    -- looked into; and what is kept for the exit. The loop's test is in l₇
+    abbrev Turned : Item 𝓤 → Upto → List (Item 𝓤)
+    Turned test j = ‵ (row R.the-row q′ ys b o) ∷ ‵ (row R.the-row fullShare (out (j .0)) l₃ 0)
+        ∷ ‵ (froom tyPtr l₁₃ 0) ∷ ‵ (fdies tyPtr l₁₃) ∷ ‵ (froom tyPtr l₁₂ 0) ∷ ‵ (fdies tyPtr l₁₂) ∷ ‵ (froom word l₁₁ 0) ∷ ‵ (fdies word l₁₁) ∷ ‵ (froom R′.mir l₁₀ 0) ∷ ‵ (fdies R′.mir l₁₀) ∷ ‵ (froom tyPtr l₉ 0) ∷ ‵ (fdies tyPtr l₉) ∷ ‵ (froom word l₈ 0) ∷ ‵ (fdies word l₈) ∷ test ∷ ‵ (fdies tyBool l₇) ∷ ‵ (fat fullShare τ l₆ 0 (aval xs)) ∷ ‵ (fdies τ l₆) ∷ ‵ (fat fullShare word l₅ 0 (vint w64 (length ys))) ∷ ‵ (fdies word l₅) ∷ ‵ (fat fullShare word l₄ 0 (vint w64 (j .0))) ∷ ‵ (fdies word l₄) ∷ ‵ (fdies τ l₃) ∷ ‵ (fat fullShare word l₂ 0 (vint w64 n)) ∷ ‵ (fdies word l₂) ∷ ‵ (fat fullShare slice l₁ 0 (sv)) ∷ ‵ (fdies slice l₁) ∷ ‵ (froom τ l₀ 0) ∷ ‵ (fdies τ l₀)
         ∷ ‵ (fobor κ q (arr-parts (shares R.the-row) (length ys) .part q′ ys b o)) ∷ ‵ Own ∷ []
 
-    -- the same where the loop's test has been made
+    -- before the test, which is the invariant, and after it
+    abbrev At : Upto → List (Item 𝓤)
+    At = Turned (‵ (froom tyBool l₇ 0))
+
     abbrev After : Upto → List (Item 𝓤)
-    After j = ‵ (row R.the-row q′ ys b o) ∷ ‵ (row R.the-row fullShare (out (j .0)) l₃ 0)
-        ∷ ‵ (froom tyPtr l₁₃ 0) ∷ ‵ (fdies tyPtr l₁₃) ∷ ‵ (froom tyPtr l₁₂ 0) ∷ ‵ (fdies tyPtr l₁₂) ∷ ‵ (froom word l₁₁ 0) ∷ ‵ (fdies word l₁₁) ∷ ‵ (froom R′.mir l₁₀ 0) ∷ ‵ (fdies R′.mir l₁₀) ∷ ‵ (froom tyPtr l₉ 0) ∷ ‵ (fdies tyPtr l₉) ∷ ‵ (froom word l₈ 0) ∷ ‵ (fdies word l₈) ∷ ‵ (fat fullShare tyBool l₇ 0 (vbool (ltb (j .0) n))) ∷ ‵ (fdies tyBool l₇) ∷ ‵ (fat fullShare τ l₆ 0 (aval xs)) ∷ ‵ (fdies τ l₆) ∷ ‵ (fat fullShare word l₅ 0 (vint w64 (length ys))) ∷ ‵ (fdies word l₅) ∷ ‵ (fat fullShare word l₄ 0 (vint w64 (j .0))) ∷ ‵ (fdies word l₄) ∷ ‵ (fdies τ l₃) ∷ ‵ (fat fullShare word l₂ 0 (vint w64 n)) ∷ ‵ (fdies word l₂) ∷ ‵ (fat fullShare slice l₁ 0 (sv)) ∷ ‵ (fdies slice l₁) ∷ ‵ (froom τ l₀ 0) ∷ ‵ (fdies τ l₀)
-        ∷ ‵ (fobor κ q (arr-parts (shares R.the-row) (length ys) .part q′ ys b o)) ∷ ‵ Own ∷ []
+    After j = Turned (‵ (fat fullShare tyBool l₇ 0 (vbool (ltb (j .0) n)))) j
 
     -- a turn's postcondition: it ends nearer to n, or the loop is left and the rest of the body runs
     abbrev Ends : Upto → Out → SProp 𝓤
@@ -187,16 +188,12 @@ module _ {M : Type 1} (𝓤 : URA M) (H : Heap 𝓤) (A : Atoms 𝓤) (W : Given
     leaves j e =
         move ! (1 ∷ []) $
         use1 W (‵ (fat fullShare τ l₃ 0 (aval (out (j .0)))) ⊛ ‵ (Sixteen .own (out (j .0)) (aval (out (j .0)) ∷ []))) (unshelve 𝓤 H A W (out (j .0)) l₃ 0 (out-len (j .0) (j .1))) $ split ! $
-        move ! (1 ∷ []) $
-        peeks ! Sixteen (Is Sixteen) (shows 𝓤 H A Sixteen) (out (j .0)) (aval (out (j .0)) ∷ []) (λ is.
-        assigns ! (of-opd ! (load ! (from ! (stop !)) (look ! 1 refl))) (from ! (stop !)) (init ! 28 refl (a-lawful 𝓤 H A W .typed (out (j .0)) _ is .0)) $
-        move ! (2 ∷ 30 ∷ []) $
-        shuts-slice ! tt R.the-row q′ ys b o $
-        returns ! (look ! 28 refl) $
+        move ! (1 ∷ []) $ peeks ! Sixteen (Is Sixteen) (shows 𝓤 H A Sixteen) (out (j .0)) (aval (out (j .0)) ∷ []) (λ is.
+        assigns ! (of-opd ! (load ! (from ! (stop !)) (look ! 1 refl))) (from ! (stop !)) (init ! 28 refl (a-lawful 𝓤 H A W .typed (out (j .0)) _ is .0)) $ move ! (2 ∷ 30 ∷ []) $
+        shuts-slice ! tt R.the-row q′ ys b o $ returns ! (look ! 28 refl) $
         forget ! 28 refl $ forget ! 26 refl $ forget ! 24 refl $ forget ! 2 refl $ forget ! 21 refl $ forget ! 19 refl $ forget ! 17 refl $ forget ! 15 refl $
         move ! (28 ∷ 29 ∷ []) $ free1 ! $ move ! (26 ∷ 27 ∷ []) $ free1 ! $ move ! (24 ∷ 25 ∷ []) $ free1 ! $ move ! (2 ∷ 23 ∷ []) $ free1 ! $ move ! (20 ∷ 21 ∷ []) $ free1 ! $ move ! (18 ∷ 19 ∷ []) $ free1 ! $ move ! (16 ∷ 17 ∷ []) $ free1 ! $ move ! (14 ∷ 15 ∷ []) $ free1 ! $ move ! (12 ∷ 13 ∷ []) $ free1 ! $ move ! (10 ∷ 11 ∷ []) $ free1 ! $ move ! (8 ∷ 9 ∷ []) $ free1 ! $ move ! (6 ∷ 7 ∷ []) $ free1 ! $ move ! (4 ∷ 5 ∷ []) $ free1 ! $ move ! (2 ∷ 3 ∷ []) $ free1 ! $ free0 ! $
-        keep ! (0 ∷ 2 ∷ 1 ∷ []) $
-        by ! (subst (λ (i : ℕ). ent 𝓤 (⋆ 𝓤 H A (Had i)) (Post (aval (out i)))) (sym e) exits))
+        keep ! (0 ∷ 2 ∷ 1 ∷ []) $ by ! (subst (λ (i : ℕ). ent 𝓤 (⋆ 𝓤 H A (Had i)) (Post (aval (out i)))) (sym e) exits))
 
     turns : (j : Upto) → Sq W (At j) (runs C Λ En mir.turn-1 (anyQ (Ends j)))
     unfolding afterTurn
@@ -214,14 +211,10 @@ module _ {M : Type 1} (𝓤 : URA M) (H : Heap 𝓤) (A : Atoms 𝓤) (W : Given
         assigns ! (bin ! (load ! (from ! (stop !)) (look ! 20 refl)) (lit ! tt) (record { fits = far less })) (from ! (stop !)) (init ! 6 refl (tt, record { fits = far less })) $
         assigns ! (addr ! (from ! (stop !))) (from ! (stop !)) (init ! 4 refl (tt, tt)) $
         assigns ! (bin ! (load ! (from ! (stop !)) (look ! 4 refl)) (load ! (from ! (stop !)) (look ! 6 refl)) tt) (from ! (stop !)) (init ! 2 refl (tt, tt)) $
-        rewrite ! 2 (λ (p : ℕ). ‵ (fat fullShare tyPtr l₁₃ 0 (vptr l₃ p))) (sym (place-is (mem R.the-row .size) 0 (j .0))) refl $
-        move ! (1 ∷ []) $
+        rewrite ! 2 (λ (p : ℕ). ‵ (fat fullShare tyPtr l₁₃ 0 (vptr l₃ p))) (sym (place-is (mem R.the-row .size) 0 (j .0))) refl $ move ! (1 ∷ []) $
         elem-out ! R.the-row (Is R.the-row) (shows 𝓤 H A R.the-row) (LL.vals R.the-type R′.the-laws) (LL.tells R.the-type R′.the-laws) fullShare (out (j .0)) (j .0) unbegun l₃ 0 (in-out less) (λ _.
         assigns ! (of-opd ! (load ! (from ! (stop !)) (look ! 10 refl))) (from ! (hop ! (look ! 4 refl) (stop !))) (store-raw ! 0 refl (LL.lawful R.the-type R′.the-laws 𝓤 H A W .typed (getD ys (j .0) unbegun) _ is .0)) $
-        move ! (1 ∷ []) $
-        drop ! $
-        owned ! R.the-row (Is R.the-row) (LL.makes R.the-type R′.the-plain 𝓤 H A) (getD ys (j .0) unbegun) _ is $
-        move ! (1 ∷ 0 ∷ 2 ∷ []) $
+        move ! (1 ∷ []) $ drop ! $ owned ! R.the-row (Is R.the-row) (LL.makes R.the-type R′.the-plain 𝓤 H A) (getD ys (j .0) unbegun) _ is $ move ! (1 ∷ 0 ∷ 2 ∷ []) $
         elem-put ! R.the-row fullShare (out (j .0)) (j .0) (getD ys (j .0) unbegun) (rval (getD ys (j .0) unbegun) ∷ []) l₃ 0 (in-out less) $
         rewrite ! 0 (λ (z : List Rec). ‵ (row R.the-row fullShare z l₃ 0)) (one-more less) refl $
         assigns-last ! (bin ! (load ! (from ! (stop !)) (look ! 20 refl)) (lit ! tt) (record { fits = next-fits less })) (from ! (stop !)) (store ! 20 refl (tt, record { fits = next-fits less })) $
@@ -268,23 +261,12 @@ module _ {M : Type 1} (𝓤 : URA M) (H : Heap 𝓤) (A : Atoms 𝓤) (W : Given
       pass1 ! (init ! 24 refl (tt, (tt, (record { fits = room .0 }, tt)))) $ pass0 ! $
       assigns ! (of-opd ! (load ! (from ! (fld ! refl (stop !))) (look-in ! 24 (sub ! 1 refl (whole !))))) (from ! (stop !)) (init ! 16 refl (tt, record { fits = room .0 })) $
       at-mosts ! at-mem run (fmOf 𝓤 H (W .laws) 𝓣) known-most (length ys) (room .0) (λ i. and-then ! (load ! (from ! (stop !)) (look ! 17 refl)) (no-more !)) (λ n-fits.
-      land ! (from ! (stop !)) (init ! 22 refl (tt, record { fits = n-fits })) $
-      blanks ! at-mem run (fmOf 𝓤 H (W .laws) 𝓣) known-blank (λ xs-is.
+      land ! (from ! (stop !)) (init ! 22 refl (tt, record { fits = n-fits })) $ blanks ! at-mem run (fmOf 𝓤 H (W .laws) 𝓣) known-blank (λ xs-is.
       land ! (from ! (stop !)) (init ! 14 refl (a-lawful 𝓤 H A W .typed xs _ xs-is .0)) $
       assigns ! (of-opd ! (load ! (from ! (stop !)) (look ! 14 refl))) (from ! (stop !)) (init ! 20 refl (a-lawful 𝓤 H A W .typed xs _ xs-is .0)) $
-      assigns ! (of-opd ! (lit ! tt)) (from ! (stop !)) (init ! 18 refl (tt, record { fits = lit< tt })) $
-      owned ! Sixteen (Is Sixteen) (a-makes 𝓤 H A W) xs _ xs-is $
-      move ! (21 ∷ 0 ∷ []) $
-      use2 W (‵ (row R.the-row fullShare xs l₃ 0)) (shelve 𝓤 H A W xs l₃ 0) $
-      move ! (28 ∷ []) $
-      split ! $
-      move ! (30 ∷ []) $
-      fsplit ! $
-      use1 W (‵ Own ⊛ ‵ Own) (shr-slice-copy 𝓤 H A W (named 0) κ R.the-row .twice x (sv ∷ [])) $ split ! $
-      move ! (1 ∷ []) $
-      fsplit ! $
-      move ! (1 ∷ []) $
-      fsplit ! $
+      assigns ! (of-opd ! (lit ! tt)) (from ! (stop !)) (init ! 18 refl (tt, record { fits = lit< tt })) $ owned ! Sixteen (Is Sixteen) (a-makes 𝓤 H A W) xs _ xs-is $
+      move ! (21 ∷ 0 ∷ []) $ use2 W (‵ (row R.the-row fullShare xs l₃ 0)) (shelve 𝓤 H A W xs l₃ 0) $ move ! (28 ∷ []) $ split ! $ move ! (30 ∷ []) $ fsplit ! $
+      use1 W (‵ Own ⊛ ‵ Own) (shr-slice-copy 𝓤 H A W (named 0) κ R.the-row .twice x (sv ∷ [])) $ split ! $ move ! (1 ∷ []) $ fsplit ! $ move ! (1 ∷ []) $ fsplit ! $
       move ! (1 ∷ 5 ∷ []) $
       looks-slice ! tt R.the-row (Is R.the-row) (shows 𝓤 H A R.the-row) (LL.vals R.the-type R′.the-laws) (LL.tells R.the-type R′.the-laws) (LL.copy R.the-type R′.the-copy 𝓤 H A W) ys b o (λ q′.
       keep ! (0 ∷ 8 ∷ 9 ∷ 10 ∷ 11 ∷ 12 ∷ 13 ∷ 14 ∷ 15 ∷ 16 ∷ 17 ∷ 18 ∷ 19 ∷ 20 ∷ 21 ∷ 22 ∷ 23 ∷ 24 ∷ 25 ∷ 26 ∷ 27 ∷ 28 ∷ 29 ∷ 30 ∷ 31 ∷ 32 ∷ 33 ∷ 34 ∷ 35 ∷ 1 ∷ 5 ∷ []) $
