@@ -1,11 +1,12 @@
-// A scenario on standard input, and on standard output, once it has been run, why each thread waits, a line for each; or its refusal alone. What is
-// wrong with a refused line is not said here: whoever runs it finds that.
+// A scenario on standard input, and on standard output, once it has been run, why each thread waits, a line for each; or its refusal alone, which is
+// said on standard error too. What is wrong with a refused line is not said here: whoever runs it finds that.
 ghost use Prim.Native.Nat.{_≤_};
 ghost use lib.ListN.{length};
 use libc::STDERR_FILENO;
 use libc::STDOUT_FILENO;
 use program_intake::Came;
 use program_intake::Intake;
+use scenario_read::Stop;
 
 // What is handed from turn to turn, besides the lists.
 struct Run {
@@ -129,10 +130,22 @@ fn answer(came: Came, lens: &[u64], ops: &[u64], vals: &[u64], out: &mut [u8]) {
         0,
     );
     let done = io::write_all(STDOUT_FILENO, program_chunks::front(out, n));
+    if done && is_refused(stop) {
+        io::write_all(STDERR_FILENO, program_chunks::front(out, n));
+    }
     if !done {
         io::write_all(
             STDERR_FILENO,
             b"trestlecat: the answers could not be written to their end, so they must not be used: make room, or let the reader take all of them\n",
         );
+    }
+}
+
+fn is_refused(stop: Stop) -> bool {
+    match stop {
+        Stop::Wants => false,
+        Stop::Full => false,
+        Stop::Refused(_, _) => true,
+        Stop::Over => false,
     }
 }

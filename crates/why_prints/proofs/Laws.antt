@@ -69,8 +69,8 @@ module _ (file : List ℕ) where
       let (st, same) = scenario-stands s _ (set-up h) refl in
       let n = length (s .lent .lens) in (
         run-length (scriptsOf (s .lent)) (atFirst s .lock) (atFirst s .recs) (s .schedule)
-        ∙ ap (λ (p : Listed). length (p .recs)) (sym same)
-        ∙ length-replicate n unbegun,
+            ∙ ap (λ (p : Listed). length (p .recs)) (sym same)
+            ∙ length-replicate n unbegun,
         count-most (s .pred) (s .top) (s .first) (s .lent) n (st .accepted),
       )
 
