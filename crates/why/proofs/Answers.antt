@@ -1,7 +1,7 @@
 -- What is answered is exact: a run's refusal, then the next step's, then the reason.
 use Prim.Native.Nat.{ℕ, _<_, _≤_}
 use mathlib.Core.Path.{_≡_, refl, sym, ap, _∙_}
-use mathlib.Core.Logic.{_≢_}
+use mathlib.Core.Logic.{_≢_, _↔_}
 use mathlib.Core.Bool.{Bool, true, false, cond, true≢false, false≢true}
 use mathlib.Core.List.{List}
 use native.Mathlib.Omega.{arith}
@@ -10,7 +10,7 @@ use package.borrow.Author.Tests.{eqb-true, eqb-false}
 use Rattle.machine.specs.Names.{noThread}
 use Rattle.machine.specs.Refusals.{Lowest, Exact}
 use Rattle.machine.specs.Lists.{Lent, scriptsOf, beside}
-use Rattle.machine.specs.Step.{Scripts, entryRefusal}
+use Rattle.machine.specs.Step.{Scripts, entryRefusal, step}
 use Rattle.machine.specs.Sound.{Sound}
 use Rattle.machine.specs.When.{OfLists, too-long, operations, values, records, no-code, unknown-code, stray-value, AtEntry, no-thread, script-finished, lock-finished, moved-by-another, does-not-fit, others-busy, not-permitted}
 use Rattle.machine.specs.declared.Lock.{Lock}
@@ -18,13 +18,15 @@ use Rattle.machine.specs.declared.Rec.{Rec}
 use Rattle.machine.specs.declared.Refusal.{Refusal}
 use Rattle.machine.proofs.ExactEntry.{entry-exact}
 use Rattle.machine.proofs.ExactLists.{beside-others}
+use Rattle.machine.proofs.RunLaws.{row-says}
 use Rattle.why.specs.Why.{why}
 use Rattle.why.specs.Told.{toldBy}
-use Rattle.why.specs.Reasons.{Because, AtWhy, as-run, next-step, numberOf, Answers}
+use Rattle.why.specs.Reasons.{Failed, Because, AtWhy, as-run, next-step, numberOf, Answers}
 use Rattle.why.specs.declared.Reason.{Reason}
+use Rattle.why.specs.declared.Reason.the-variants.{NotWaiting}
 use Rattle.why.specs.declared.Told.{Told}
 use Rattle.why.specs.declared.Told.the-variants.{Refused, Given}
-use Rattle.why.proofs.Reasons.{why-exact}
+use Rattle.why.proofs.Reasons.{why-exact, waits-exactly}
 
 -- ---- a run's numbers are below an entry's
 pub lists-below : (s : Lent) (n k : ℕ) → OfLists s n k → k < noThread
@@ -154,3 +156,22 @@ module _ (s : Lent) (L : Lock) (l : List Rec) (i : ℕ) (Run : ℕ → Type 0) (
     where
       is-sound : c ≡ 0 → Sound S L l
       is-sound z = ready (none-of-run Run Step a b c low (entry-above S L l i) run-is (entry-exact S L l i) first then z)
+
+-- ---- what the next row shows, where c is the next step's refusal
+module _ (s : Lent) (L : Lock) (l : List Rec) (i c : ℕ) (is : c ≡ entryRefusal (scriptsOf s) L l i) where
+  abbrev y₀ : Reason
+  y₀ = why (scriptsOf s) L l i
+
+  pub number-told : numberOf (toldBy s c y₀) ≡ c
+  unfolding toldBy
+  number-told = number-so s c y₀ (eqb c 0) refl
+
+  pub answer-shown : step (scriptsOf s) L l i .row .answer ≡ numberOf (toldBy s c y₀)
+  answer-shown = row-says (scriptsOf s) L l i .0 ∙ sym is ∙ sym number-told
+
+  pub failure-shown : (y : Reason) → toldBy s c y₀ ≡ Given y → (y ≢ NotWaiting) ↔ Failed (L .top .0) (step (scriptsOf s) L l i .row)
+  unfolding toldBy
+  failure-shown y e =
+      let (none, same) = reason-so s c y₀ (eqb c 0) refl y e in
+      let (to, from) = waits-exactly (scriptsOf s) L l i in
+      (λ n. to (λ z. n (sym same ∙ z)) .1, λ f z. from (row-says (scriptsOf s) L l i .0 ∙ sym is ∙ none, f) (same ∙ z))

@@ -9,8 +9,7 @@ use package.borrow.Author.Tests.{ne-eqb}
 use Rattle.machine.specs.Names.{noThread, rowWords}
 use Rattle.machine.specs.Lists.{Lent, scriptsOf, beside}
 use Rattle.machine.specs.Step.{Scripts, entryChecks, entryRefusal, step}
-use Rattle.machine.specs.Run.{wordsOf}
-use Rattle.machine.specs.When.{AtEntry, no-thread, script-finished, lock-finished, moved-by-another, does-not-fit, others-busy, not-permitted}
+use Rattle.machine.specs.Run.{wordsOf, runChecks, runRefusal}
 use Rattle.machine.specs.declared.Lock.{Lock}
 use Rattle.machine.specs.declared.Rec.{Rec}
 use Rattle.machine.specs.declared.Refusal.{Refusal}
@@ -25,24 +24,16 @@ use Rattle.lock.proofs.Refusing.{earlier, later, no-number, number-beside}
 use Rattle.lock_promises.proofs.Refusing.{run-told-by-value}
 use Rattle.lock_promises.proofs.Accesses.{one-entry-by-value}
 use Rattle.why.specs.Why.{reasonOf}
-use Rattle.why.specs.Told.{toldBy}
+use Rattle.why.specs.Told.{toldBy, whyRefusal}
 use Rattle.why_code.specs.ByValue.{whyRefusalOf, toldOf}
 use Rattle.why.specs.declared.Reason.{Reason}
 use Rattle.why.specs.declared.Told.the-variants.{Refused, Given}
+use Rattle.why.proofs.Answers.{entry-above}
 
 -- ---- the refusal's number
--- an entry's numbers are 11 and above
-pub above : (S : Scripts) (L : Lock) (l : List Rec) (i k : ℕ) → AtEntry S L l i k → noThread ≤ k
-above S L l i k (no-thread h) = omega arith
-above S L l i k (script-finished h) = omega arith
-above S L l i k (lock-finished h) = omega arith
-above S L l i k (moved-by-another t h ne) = omega arith
-above S L l i k (does-not-fit h) = omega arith
-above S L l i k (others-busy o m j ne lt h) = omega arith
-above S L l i k (not-permitted p o h) = omega arith
-
-pub entry-above : (S : Scripts) (L : Lock) (l : List Rec) (i : ℕ) → entryRefusal S L l i ≢ 0 → noThread ≤ entryRefusal S L l i
-entry-above S L l i some = above S L l i _ (entry-exact S L l i .0 (entryRefusal S L l i) some .0 refl .0)
+-- an entry's is 11 or above
+above : (S : Scripts) (L : Lock) (l : List Rec) (i : ℕ) → entryRefusal S L l i ≢ 0 → noThread ≤ entryRefusal S L l i
+above S L l i some = entry-above S L l i _ (entry-exact S L l i .0 (entryRefusal S L l i) some .0 refl .0)
 
 module _ (s : Lent) (count : ℕ) (L : Lock) (l : List Rec) (i : ℕ) where
   pub run-first : runRefusalOf s count L l ≢ 0 → whyRefusalOf s count L l i ≡ runRefusalOf s count L l
@@ -52,6 +43,16 @@ module _ (s : Lent) (count : ℕ) (L : Lock) (l : List Rec) (i : ℕ) where
   pub then-entry : runRefusalOf s count L l ≡ 0 → whyRefusalOf s count L l i ≡ entryRefusal (scriptsOf s) L l i
   unfolding whyRefusalOf runRefusalOf entryRefusal
   then-entry none = later (runChecksOf s count L l) (entryChecks (scriptsOf s) L l i) (passed 0 (runChecksOf s count L l) (omega arith) none)
+
+-- the same over a list of records
+module _ (s : Lent) (L : Lock) (l : List Rec) (i : ℕ) where
+  pub run-first-of-list : runRefusal s L l ≢ 0 → whyRefusal s L l i ≡ runRefusal s L l
+  unfolding whyRefusal runRefusal
+  run-first-of-list some = earlier (runChecks s L l) (entryChecks (scriptsOf s) L l i) some
+
+  pub then-entry-of-list : runRefusal s L l ≡ 0 → whyRefusal s L l i ≡ entryRefusal (scriptsOf s) L l i
+  unfolding whyRefusal runRefusal entryRefusal
+  then-entry-of-list none = later (runChecks s L l) (entryChecks (scriptsOf s) L l i) (passed 0 (runChecks s L l) (omega arith) none)
 
 -- ---- the call
 module _
@@ -88,7 +89,7 @@ module _
     step-refused some =
         let k = entryRefusal S L l i in
         let not-none : k ≢ 0 = λ z. some (answer-is ∙ z) in
-        let high = entry-above S L l i not-none in
+        let high = above S L l i not-none in
         let (number, thread, place) = beside-others s k in
         let same : _≡_ {A = Refusal} (record { number = k; thread = 0; place = 0 }) (beside s k) =
         λ j. record { number = sym number j; thread = sym (thread (λ e. omega arith) (λ e. omega arith)) j; place = sym (place (λ e. omega arith)) j }

@@ -8,17 +8,15 @@ use mathlib.Core.List.{List}
 use lib.Dec.{eqb}
 use lib.ListN.{length, take}
 use package.borrow.Author.Tests.{eqb-true, eqb-false, ne-eqb}
-use Rattle.machine.specs.Lists.{Lent, scriptsOf}
-use Rattle.machine.specs.Step.{entryChecks}
-use Rattle.machine.specs.Run.{runChecks, runRefusal}
+use Rattle.machine.specs.Lists.{Lent}
+use Rattle.machine.specs.Run.{runRefusal}
 use Rattle.machine.specs.declared.Lock.{Lock}
 use Rattle.machine.specs.declared.Rec.{Rec}
-use Rattle.lock.proofs.Refusing.{earlier}
 use Rattle.lock_lent.specs.Taken.{taken}
 use Rattle.lock_lent.proofs.AnyLength.{taken-first, same-refusal, few-of-run}
 use Rattle.why.specs.Told.{toldBy, whyRefusal, toldLent}
 use Rattle.why_code.specs.ByValue.{whyRefusalOf, toldOf}
-use Rattle.why_code.proofs.Calls.{run-first}
+use Rattle.why_code.proofs.Calls.{run-first, run-first-of-list}
 use Rattle.why_lent.specs.AnyLength.{ToldAnyLength}
 
 module _ (s : Lent) (L : Lock) (l : List Rec) (i : ℕ) where
@@ -31,14 +29,10 @@ module _ (s : Lent) (L : Lock) (l : List Rec) (i : ℕ) where
     of-array : whyRefusalOf s (length l) L first i ≡ runRefusal s L l
     of-array = run-first s (length l) L first i (λ z. some (sym (same-refusal s L l) ∙ z)) ∙ same-refusal s L l
 
-    of-list : whyRefusal s L l i ≡ runRefusal s L l
-    unfolding whyRefusal runRefusal
-    of-list = earlier (runChecks s L l) (entryChecks (scriptsOf s) L l i) some
-
   told : (b : Bool) → eqb (runRefusal s L l) 0 ≡ b → toldOf s (length l) L (taken l) i ≡ toldLent s L l i
   unfolding toldOf toldBy whyRefusalOf whyRefusal
   told true e = rw (taken-first l (few-of-run s L l (eqb-true _ 0 e))) refl
-  told false e = let some = eqb-false _ 0 e in rw (of-array some, of-list some, ne-eqb _ 0 some) refl
+  told false e = let some = eqb-false _ 0 e in rw (of-array some, run-first-of-list s L l i some, ne-eqb _ 0 some) refl
 
 pub told-any-length : ToldAnyLength
 told-any-length s L l i = told s L l i (eqb (runRefusal s L l) 0) refl

@@ -1,0 +1,1 @@
+// What is promised of the answers why a thread waits: statements and proofs, no code.
