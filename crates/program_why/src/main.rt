@@ -99,9 +99,7 @@ fn after(came: Came, lens: &[u64], ops: &[u64], vals: &[u64], out: &mut [u8]) ->
     let input = intake.input;
     let stop = came.stop;
     let ends = scenario_read::ends(stop);
-    if ends {
-        answer(came, lens, ops, vals, out);
-    }
+    answer(ends, came, lens, ops, vals, out);
     if input.failed && !ends {
         io::write_all(
             STDERR_FILENO,
@@ -114,7 +112,11 @@ fn after(came: Came, lens: &[u64], ops: &[u64], vals: &[u64], out: &mut [u8]) ->
     }
 }
 
-fn answer(came: Came, lens: &[u64], ops: &[u64], vals: &[u64], out: &mut [u8]) {
+// At the end of the scenario.
+fn answer(ends: bool, came: Came, lens: &[u64], ops: &[u64], vals: &[u64], out: &mut [u8]) {
+    if !ends {
+        return;
+    }
     let intake = came.intake;
     let state = intake.state;
     let read = state.read;
