@@ -1,6 +1,6 @@
 -- What is answered is exact: a run's refusal, then the next step's, then the reason.
 use Prim.Native.Nat.{ℕ, _<_, _≤_}
-use mathlib.Core.Path.{_≡_, refl, sym, ap, _∙_}
+use mathlib.Core.Path.{_≡_, refl, sym, ap, subst, _∙_}
 use mathlib.Core.Logic.{_≢_, _↔_}
 use mathlib.Core.Bool.{Bool, true, false, cond, true≢false, false≢true}
 use mathlib.Core.List.{List}
@@ -148,7 +148,9 @@ module _ (s : Lent) (L : Lock) (l : List Rec) (i : ℕ) (Run : ℕ → Type 0) (
   unfolding toldBy
   answers-so =
       record {
-        exact = rw (number-so s c (why S L l i) (eqb c 0) refl) (exact-both Run Step a b c low (entry-above S L l i) run-is (entry-exact S L l i) first then);
+        exact =
+            subst (Exact (AtWhy Run Step)) (sym (number-so s c (why S L l i) (eqb c 0) refl))
+            (exact-both Run Step a b c low (entry-above S L l i) run-is (entry-exact S L l i) first then);
         next-to = refusal-so s c (why S L l i) (eqb c 0);
         sound = λ y e. is-sound (reason-so s c (why S L l i) (eqb c 0) refl y e .0);
         because = λ y e. let (z, same) = reason-so s c (why S L l i) (eqb c 0) refl y e in why-exact S L l i (is-sound z) y .0 same;
