@@ -1,6 +1,7 @@
-# Prints the trace of a scenario in words, a line for each row as it comes: number, thread, what the thread did and got, flag, count.
+# Prints the trace of a scenario in words, a line for each row as it comes: number, thread, what the thread did and got, flag, count; and
+# then, behind an empty line, why each thread waits that does, where the trace has an empty line behind it and the answers of why.
 # usage: LC_ALL=C awk -f tools/rows.awk -f tools/explain.awk SCENARIO TRACE        (TRACE may be - for standard input)
-# Where TRACE is not the trace of SCENARIO it says so on standard error, and its status is 2.
+# Where TRACE is not the trace of SCENARIO, or the answers are not of it, it says so on standard error, and its status is 2.
 
 function head() { tell("row", "thread", "what it does", "flag", "count") }
 
@@ -10,6 +11,7 @@ function row() { tell($1, thread, answer ? "refused " answer ": " why() : words(
 function last() {
     if (refusal == 17) print "drain is refused, with 17: what is left is not tidy"
     else if (refusal != "") print "the scenario is refused at line " refused_line ", with " refusal
+    if (ended) waiting()
 }
 
 # Whoever reads a trace through a pipe reads each row before the next one comes, hence the flush.
@@ -24,7 +26,7 @@ function words() {
 }
 
 function reader() {
-    if (access == 1 && got "" == top) return full()
+    if (access == 1 && got "" == top) return full(got)
     if (access == 1) return "looks at the count: " got
     if (access == 2) return "counts itself: the count was " got " and is " rc
     if (access == 13) return "waits: saw " seen[thread] ", found " got ": " beaten(seen[thread])
@@ -63,9 +65,9 @@ function held() {
 # Nothing takes a dropped read off the count, and nothing takes the flag down after a dropped write.
 function for_ever(dropped) { return dropped ? " for ever" : "" }
 
-function full(    of_dropped) {
+function full(count,    of_dropped) {
     of_dropped = dropped_reads "" == top
-    return "waits" for_ever(of_dropped) ": the count is full (" got ")" (of_dropped ? " of dropped handles" : "")
+    return "waits" for_ever(of_dropped) ": the count is full (" count ")" (of_dropped ? " of dropped handles" : "")
 }
 
 # Why the entry is refused.
@@ -92,4 +94,60 @@ function others(list,    n, i, j, part, text) {
         text = text (i == 1 ? "" : j == n ? " and " : ", ") part[i] (j > i ? " to " part[j] : "")
     }
     return (length(text) > 17 ? n " threads" : "threads " text) " are"
+}
+
+# ---- Why threads wait at the end
+
+# An answer is made anew from what the rows have left, as a row is, and compared with the one that came. So the words are about what is
+# there, and the numbers in them, which an answer has not, stand beside the right one.
+function behind(k) {
+    if (k > due() || $0 != answer_line(k)) wrong("line " k " of what why answers is not one of this trace")
+    if (k == 1) return
+    reason[k - 2] = $3 + 0
+    beside[k - 2] = $4
+}
+
+function wrong(what) { stop(what ": run it again, or remove target, so that program_why is built anew") }
+
+# How many lines why answers: its header and one for each thread, or the refusal alone.
+function due() { return refusal == "" ? threads + 1 : 1 }
+
+function answer_line(k) {
+    if (refusal != "") return "refused," refusal "," refused_line
+    return k == 1 ? "thread,answer,reason,who" : k - 2 "," answer_of(k - 2)
+}
+
+# 'ANSWER,REASON,WHO' of thread t.
+function answer_of(t,    way) {
+    if (refused(t)) return refused(t) ",0,0"
+    way = ACCESS[place[t], op[t, at[t]]]
+    if (way == 1 && rc "" == top) return "0,1,0"
+    if (way == 2 && rc != seen[t]) return "0,2,0"
+    if ((way == 3 || way == 7) && exc) return dropped_writes ? "0,4,0" : "0,3," lowest("^Writ")
+    if (way == 8 && rc) return rc > dropped_reads ? "0,5," lowest("^Read(Check|Back|ing)$") : "0,6,0"
+    return "0,0,0"
+}
+
+# The lowest-numbered thread at such a place.
+function lowest(places,    t) {
+    for (t = 0; t < threads; t++) if (place[t] ~ places) return t
+}
+
+# A thread waits where its next step is a look or an exchange that fails.
+function waiting(    t, any) {
+    if (NR - ended < due()) wrong("why has answered " (NR - ended) " of " due() " lines")
+    for (t = 0; t < threads; t++) {
+        if (!reason[t]) continue
+        if (!any++) print ""
+        print "thread " t " " reason_in_words(t)
+    }
+}
+
+function reason_in_words(t) {
+    if (reason[t] == 1) return full(rc)
+    if (reason[t] == 2) return "waits: it saw " seen[t] ", the count is " rc
+    if (reason[t] == 3) return "waits: the flag is up, thread " beside[t] " holds it"
+    if (reason[t] == 4) return "waits for ever: the flag is up, by a dropped handle"
+    if (reason[t] == 6) return "waits for ever: the count is not 0, dropped handles only"
+    return "waits" for_ever(dropped_reads) ": the count is not 0, thread " beside[t] " is counted" (dropped_reads ? ", and so is a dropped handle" : "")
 }

@@ -1,7 +1,7 @@
 # What explain.awk and untidy.awk share: it reads a scenario and follows the rows of its trace, thread by thread, as docs/RULES.md has it
 # (section 5: places and accesses; section 10: refusals 11 to 16). Given with a first -f; the program that is given with the second one
-# has three functions: head(), called before the first row, row(), after each row, and last(), at the end. Words on the command line:
-# SCENARIO TRACE.
+# has four functions: head(), called before the first row, row(), after each row, behind(K), at line K behind an empty one, which ends the
+# rows, and last(), at the end. Words on the command line: SCENARIO TRACE.
 #
 # Values and M go up to 2^64 - 1, which awk's numbers do not hold: they are text here and are compared as text. The count is a number: it
 # counts readers, and so many that it would not be exact cannot be in a file's scripts.
@@ -27,6 +27,8 @@ NR == 1 {
     head()
     next
 }
+ended { behind(NR - ended); next }
+$0 == "" { ended = NR; next }
 refusal != "" { stop("line " NR " of the trace stands behind its refusal") }
 /^refused,[0-9]+,[0-9]+$/ { refusal = $2; refused_line = $3; next }
 {

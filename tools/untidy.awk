@@ -6,6 +6,7 @@
 
 function head() {}
 function row() {}
+function behind(k) { stop("line " k " behind the empty one is none of a trace: give the trace alone") }
 
 # Of a scenario that is refused itself, drain cannot be asked, and its op lines may be cut short.
 function last(    t, reason) {
