@@ -1,7 +1,7 @@
 #!/bin/sh
-# Runs every example through the command. The trace must be its .out file, the waveform its .vcd file, the trace in words its .words file and that of
-# a drain its .drain file, byte for byte; the signals that are read in the waveform must be those of the trace; and the status 1 exactly if the trace
-# ends refused, whose last line wave says on standard error, first.
+# Runs every example through the command. The trace must be its .out file, the waveform its .vcd file, the trace in words its .words file, why its
+# threads wait its .why file and the trace of a drain its .drain file, byte for byte; the signals that are read in the waveform must be those of the
+# trace; and the status 1 exactly if the trace ends refused, whose last line wave says on standard error, first.
 set -u
 cd "$(dirname "$0")/.." || exit 2
 . tests/lib.sh
@@ -42,6 +42,7 @@ for scenario in examples/*.csv; do
     expect "$status" "$name.vcd" wave "$scenario"
     says "$(tail -n 1 "$name.out" | grep '^refused,')" wave "$scenario"
     expect "$status" "$name.words" explain "$scenario"
+    expect "$status" "$name.why" why "$scenario"
     [ ! -f "$name.drain" ] || expect "$status" "$name.drain" drain "$scenario"
     signals <"$name.out" >"$room/signals"
     expect 0 "$room/signals" unwave "$name.vcd"

@@ -2,7 +2,7 @@
 
 # built: every program of the command is, so that it says nothing of that later
 built() {
-    for command in run drain wave; do ./trestlecat "$command" examples/case-a.csv; done >/dev/null 2>&1
+    for command in run why drain wave; do ./trestlecat "$command" examples/case-a.csv; done >/dev/null 2>&1
     ./trestlecat unwave examples/case-a.vcd >/dev/null 2>&1
 }
 

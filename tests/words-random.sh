@@ -1,8 +1,9 @@
 #!/bin/sh
 # Takes scenario files that oracle/scenarios.rs makes, good and damaged ones, and their traces, which the second program prints, and tells them in words
 # with every awk that is here. For each file:
-#   the words must come line by line as the trace does, and what they say has beaten an exchange must have done so (tests/words/agree.awk);
-#   tools/rows.awk compares each row with what it followed
+#   the words must come line by line as the trace does, what they say has beaten an exchange must have done so, and what they say of a thread
+#   that waits at the end must be what the second program answers (tests/words/agree.awk); tools/rows.awk compares each row with what it
+#   followed, and tools/explain.awk each answer
 #   the refusal that tests/words/told.awk tells must be the trace's, and its words must be one line
 #   why it is not tidy must be one line
 #   and all awks must print the same
@@ -28,6 +29,8 @@ room=$(mktemp -d)
 trap 'rm -rf "$room"' EXIT
 cat >"$room/scenario"
 target/words/lock run <"$room/scenario" >"$room/trace"
+target/words/lock why <"$room/scenario" >"$room/why"
+{ cat "$room/trace" && echo && cat "$room/why"; } >"$room/both"
 od -An -v -tu1 "$room/scenario" | awk -f tests/words/told.awk >"$room/told"
 fail() {
     echo "$1"
@@ -36,7 +39,7 @@ fail() {
 [ "$(head -n 1 "$room/told")" = "$(grep '^refused,' "$room/trace")" ] || fail "another refusal"
 for awk in awk mawk gawk "gawk --posix" original-awk "busybox awk"; do
     command -v "${awk%% *}" >/dev/null || continue
-    $awk -f tools/rows.awk -f tools/explain.awk "$room/scenario" "$room/trace" >"$room/words" || fail "no words"
+    $awk -f tools/rows.awk -f tools/explain.awk "$room/scenario" "$room/both" >"$room/words" || fail "no words"
     $awk -f tools/rows.awk -f tools/untidy.awk "$room/scenario" "$room/trace" >"$room/untidy" || [ $? -eq 3 ] || fail "no line about tidy"
     [ ! -s "$room/told" ] || file=a.csv $awk -f tools/refused.awk <"$room/told" >"$room/refused" || fail "no line about the refusal"
     cat "$room/words" "$room/untidy" >"$room/now"
@@ -44,7 +47,7 @@ for awk in awk mawk gawk "gawk --posix" original-awk "busybox awk"; do
     [ -f "$room/first" ] || mv "$room/now" "$room/first"
     [ ! -f "$room/now" ] || cmp -s "$room/now" "$room/first" || fail "another awk"
 done
-awk -f tests/words/agree.awk "$room/trace" "$room/words" >&2 || fail "other words"
+awk -f tests/words/agree.awk "$room/trace" "$room/why" "$room/words" >&2 || fail "other words"
 [ "$(grep -c '^trestlecat: refused 17: [a-z].*: [a-z]' "$room/untidy")" = "$(wc -l <"$room/untidy")" ] || fail "17"
 [ ! -s "$room/told" ] || [ "$(grep -c '^trestlecat: refused [0-9]* at line [0-9]*, .*: [a-z]' "$room/refused")" = 1 ] || fail "its words"
 cat "$room/trace"

@@ -1,7 +1,7 @@
 #!/bin/sh
 # Tests what is told in words, whole lines, with every awk that is here:
 #   tests/words/refused.txt   each cause of a refusal: the file and the line that must come; where that names a command, the command must mend the file
-#   examples, tests/words/rows-*.csv    each trace (.out) in words (.words)
+#   examples, tests/words/rows-*.csv    each trace (.out), with why threads wait behind it (.why), in words (.words)
 #   tests/words/untidy-*.csv            why the state at the end of the trace (.out) is not tidy (.says)
 # usage: tests/words.sh [-s]
 #   -s   without the programs: what a program tells of a refusal comes from tests/words/told.awk alone, and ./trestlecat is not started
@@ -137,16 +137,26 @@ refuses "32 alone" "trestlecat: refused 32 at line 4: the line stands in the wro
 printf 'refused,4,3\r\n' >"$room/told"
 refuses "4 alone" "trestlecat: refused 4 at line 3: see number 4 in docs/RULES.md, section 10"
 
-# files SCRIPT ENDING FILE..: what the script prints for each scenario and its trace
+# given NAME: what a script reads of a scenario: its trace, and behind an empty line why its threads wait, where that is there
+given() {
+    cat "$1.out"
+    [ ! -f "$1.why" ] || echo
+    [ ! -f "$1.why" ] || cat "$1.why"
+}
+
+# files SCRIPT ENDING FILE..: what the script prints for each scenario
 files() {
     script=$1 ending=$2
     shift 2
     for file in "$@"; do
+        name=${file%.csv}
         for awk in $awks; do
-            same "$file ($script, $awk)" "$(cat "${file%.csv}$ending")" \
-                "$(with "$awk" -f tools/rows.awk -f "tools/$script.awk" "$file" - <"${file%.csv}.out" || echo "status $?")"
+            same "$file ($script, $awk)" "$(cat "$name$ending")" \
+                "$(given "$name" | with "$awk" -f tools/rows.awk -f "tools/$script.awk" "$file" - || echo "status $?")"
         done
-        [ -z "$programs" ] || same "$file (run)" "$(cat "${file%.csv}.out")" "$(./trestlecat run "$file" 2>/dev/null)"
+        [ -n "$programs" ] || continue
+        same "$file (run)" "$(cat "$name.out")" "$(./trestlecat run "$file" 2>/dev/null)"
+        [ ! -f "$name.why" ] || same "$file (why)" "$(cat "$name.why")" "$(./trestlecat why "$file" 2>/dev/null)"
     done
 }
 files explain .words examples/*.csv tests/words/rows-*.csv
@@ -214,17 +224,84 @@ other "an older trace, failed" 4 examples/case-e.csv "$room/older.out"
 sed 's/^1,1,14,0,1,/1,1,7,0,0,/' tests/words/rows-writers.out >"$room/older.out"
 other "an older trace, the flag" 1 tests/words/rows-writers.csv "$room/older.out"
 
+# Why threads wait is told of answers that are those of the trace, and of all of them. Without answers nothing is said of it.
+# answered WHAT SENTENCE NAME: of the answers in $room/why, behind the trace of an example
+answered() {
+    for awk in $awks; do
+        { cat "examples/$3.out" && echo && cat "$room/why"; } | with "$awk" -f tools/rows.awk -f tools/explain.awk "examples/$3.csv" - >"$room/out" 2>"$room/err"
+        same "$1 ($awk)" "2 trestlecat: $2: run it again, or remove target, so that program_why is built anew" "$? $(cat "$room/err")"
+        same "$1, what is told ($awk)" "" "$(grep '^thread' "$room/out")"
+    done
+}
+ends "a trace without answers" "      6       1  puts the flag up: it was down                                           up        2" examples/why.csv examples/why.out
+: >"$room/why"
+answered "no answer" "why has answered 0 of 8 lines" why
+answered "no refusal" "why has answered 0 of 1 lines" refused
+sed 7,8d examples/why.why >"$room/why"
+answered "answers that are cut off" "why has answered 6 of 8 lines" why
+sed 's/who/by/' examples/why.why >"$room/why"
+answered "another header" "line 1 of what why answers is not one of this trace" why
+sed 's/^2,0,3,1/2,0,3,0/' examples/why.why >"$room/why"
+answered "another thread that holds the flag" "line 4 of what why answers is not one of this trace" why
+sed 's/^4,0,2,0/4,0,0,0/' examples/why.why >"$room/why"
+answered "a thread that should not wait" "line 6 of what why answers is not one of this trace" why
+cat examples/why.why - >"$room/why" <<'END_OF_ANSWERS'
+7,0,0,0
+END_OF_ANSWERS
+answered "a thread too many" "line 9 of what why answers is not one of this trace" why
+cp examples/refused.why "$room/why"
+answered "a refusal of another scenario" "line 1 of what why answers is not one of this trace" why
+sed 's/6/7/' examples/refused.why >"$room/why"
+answered "a refusal at another line" "line 1 of what why answers is not one of this trace" refused
+
 # What judges the words of random files (tests/words/agree.awk) takes these words, and none that say of an exchange that another row beat it.
 # taken NAME LINE: the rows with which it takes the sentence on that line
 taken() {
     for row in $(awk -F, 'FNR > 1 { print $1 }' "tests/words/$1.out"); do
         sed "$2s/(row [0-9]*)/(row $row)/" "tests/words/$1.words" >"$room/words"
-        ! awk -f tests/words/agree.awk "tests/words/$1.out" "$room/words" >/dev/null || echo "$row"
+        ! awk -f tests/words/agree.awk "tests/words/$1.out" "tests/words/$1.why" "$room/words" >/dev/null || echo "$row"
     done
 }
 for name in rows-beaten-count rows-beaten-flag rows-beaten-for-ever; do
     for line in $(grep -n '(row ' "tests/words/$name.words" | cut -d: -f1); do
         same "what beat it ($name, line $line)" "$(sed -n "${line}s/.*(row \([0-9]*\)).*/\1/p" "tests/words/$name.words")" "$(taken "$name" "$line")"
+    done
+done
+
+# Nor does it take another sentence about a thread that waits at the end: with another number, with 'for ever' or without it, or none.
+# others LINE: of the words on standard input, with that line changed, each in a file of its own
+others() {
+    awk -v at="$1" -v room="$room" '
+        function write(text,    i, name) {
+            name = room "/other." ++files
+            for (i = 1; i <= NR; i++) if (i != at || text != "") print i == at ? text : line[i] > name
+            close(name)
+        }
+        { line[NR] = $0 }
+        END {
+            n = split(line[at], word, /[^0-9]+/)
+            for (i = 1; i <= n; i++) {
+                if (word[i] == "") continue
+                rest = substr(line[at], past + 1)
+                match(rest, word[i])
+                write(substr(line[at], 1, past + RSTART - 1) word[i] + 1 substr(rest, RSTART + RLENGTH))
+                past += RSTART + RLENGTH - 1
+            }
+            text = line[at]
+            if (!sub(/ for ever/, "", text)) sub(/waits/, "waits for ever", text)
+            write(text)
+            write("")
+        }'
+}
+for words in examples/*.words tests/words/rows-*.words; do
+    name=${words%.words}
+    same "what judges takes $words" 0 "$(awk -f tests/words/agree.awk "$name.out" "$name.why" "$words" >/dev/null; echo $?)"
+    for line in $(grep -n '^thread' "$words" | cut -d: -f1); do
+        others "$line" <"$words"
+        for other in "$room"/other.*; do
+            same "what judges takes no other line $line of $words" 1 "$(awk -f tests/words/agree.awk "$name.out" "$name.why" "$other" >/dev/null; echo $?)"
+        done
+        rm "$room"/other.*
     done
 done
 echo "awks:$awks${lacking:+; not here:$lacking}"
