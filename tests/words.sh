@@ -228,12 +228,14 @@ other "an older trace, the flag" 1 tests/words/rows-writers.csv "$room/older.out
 # answered WHAT SENTENCE NAME: of the answers in $room/why, behind the trace of an example
 answered() {
     for awk in $awks; do
-        { cat "examples/$3.out" && echo && cat "$room/why"; } | with "$awk" -f tools/rows.awk -f tools/explain.awk "examples/$3.csv" - >"$room/out" 2>"$room/err"
+        { cat "examples/$3.out" && echo && cat "$room/why"; } |
+            with "$awk" -f tools/rows.awk -f tools/explain.awk "examples/$3.csv" - >"$room/out" 2>"$room/err"
         same "$1 ($awk)" "2 trestlecat: $2: run it again, or remove target, so that program_why is built anew" "$? $(cat "$room/err")"
         same "$1, what is told ($awk)" "" "$(grep '^thread' "$room/out")"
     done
 }
-ends "a trace without answers" "      6       1  puts the flag up: it was down                                           up        2" examples/why.csv examples/why.out
+ends "a trace without answers" "      6       1  puts the flag up: it was down                                           up        2" \
+    examples/why.csv examples/why.out
 : >"$room/why"
 answered "no answer" "why has answered 0 of 8 lines" why
 answered "no refusal" "why has answered 0 of 1 lines" refused
