@@ -39,7 +39,7 @@ use Rattle.why.specs.declared.Told.{Told}
 use Rattle.why.specs.declared.Told.the-variants.{Given}
 use Rattle.why.proofs.Answers.{lists-below, answers-so, number-told, answer-shown, failure-shown}
 use Rattle.why.proofs.Reasons.{why-exact}
-use Rattle.why.proofs.WayOn.{named-goes-on}
+use Rattle.why.proofs.WayOn.{named-goes-on as way-on}
 use Rattle.why_code.specs.ByValue.{whyRefusalOf, toldOf}
 use Rattle.why_code.proofs.Calls.{run-first, then-entry, run-first-of-list, then-entry-of-list}
 use Rattle.why_promises.specs.Promises.{Answered, AnsweredByValue, AskedOfReached, AskedOfReachedByValue, Shows, ShownByRun, ShownByRunByValue, NamedGoesOn, NamedGoesOnByValue}
@@ -142,11 +142,11 @@ goes-on-here : (s : Lent) (Run : ℕ → Type 0) (L : Lock) (l : List Rec) (i w 
 goes-on-here s Run L l i w y r a is names tidy =
     let h = a .sound y is in
     let same = why-exact (scriptsOf s) L l i h y .1 (a .because y is) in
-    named-goes-on (scriptsOf s) L l i w h tidy (subst (λ (x : Reason). Names x w) (sym same) names)
+    way-on (scriptsOf s) L l i w h tidy (subst (λ (x : Reason). Names x w) (sym same) names)
 
-pub goes-on : NamedGoesOn
-goes-on s L l i w y r told = goes-on-here s (AtRun s L l) L l i w y r (answered s L l i r told)
+pub named-goes-on : NamedGoesOn
+named-goes-on s L l i w y r told = goes-on-here s (AtRun s L l) L l i w y r (answered s L l i r told)
 
-pub goes-on-by-value : NamedGoesOnByValue
-goes-on-by-value s count L recs i w y r told =
+pub named-goes-on-by-value : NamedGoesOnByValue
+named-goes-on-by-value s count L recs i w y r told =
     goes-on-here s (AtRunOf s count L (take count recs)) L (take count recs) i w y r (answered-by-value s count L recs i r told)
