@@ -6,9 +6,9 @@ use mathlib.Core.Bool.{Bool, true, false, cond, true≢false, false≢true}
 use mathlib.Core.List.{List}
 use native.Mathlib.Omega.{arith}
 use lib.Dec.{eqb}
-use package.borrow.Author.Tests.{eqb-true, eqb-false}
+use package.borrow.Author.Tests.{eqb-true, eqb-false, eq-eqb}
 use Rattle.machine.specs.Names.{noThread}
-use Rattle.machine.specs.Refusals.{Lowest, Exact}
+use Rattle.machine.specs.Refusals.{Lowest, Nothing, Exact}
 use Rattle.machine.specs.Lists.{Lent, scriptsOf, beside}
 use Rattle.machine.specs.Step.{Scripts, entryRefusal, step}
 use Rattle.machine.specs.Sound.{Sound}
@@ -150,14 +150,34 @@ module _ (s : Lent) (L : Lock) (l : List Rec) (i : ℕ) (Run : ℕ → Type 0) (
       record {
         exact =
             subst (Exact (AtWhy Run Step)) (sym (number-so s c (why S L l i) (eqb c 0) refl))
-            (exact-both Run Step a b c low (entry-above S L l i) run-is (entry-exact S L l i) first then);
+            exact-c;
         next-to = refusal-so s c (why S L l i) (eqb c 0);
         sound = λ y e. is-sound (reason-so s c (why S L l i) (eqb c 0) refl y e .0);
-        because = λ y e. let (z, same) = reason-so s c (why S L l i) (eqb c 0) refl y e in why-exact S L l i (is-sound z) y .0 same;
+        given = λ y. (given-holds y, holds-given y);
+        told = λ none. (why S L l i, given-of (no-refusal none));
       }
     where
+      exact-c : Exact (AtWhy Run Step) c
+      exact-c = exact-both Run Step a b c low (entry-above S L l i) run-is (entry-exact S L l i) first then
+
       is-sound : c ≡ 0 → Sound S L l
       is-sound z = ready (none-of-run Run Step a b c low (entry-above S L l i) run-is (entry-exact S L l i) first then z)
+
+      no-refusal : Nothing (AtWhy Run Step) → c ≡ 0
+      no-refusal = exact-c .1 .1
+
+      given-of : c ≡ 0 → cond (eqb c 0) (Given (why S L l i)) (Refused (beside s c)) ≡ Given (why S L l i)
+      given-of z = rw (eq-eqb c 0 z) refl
+
+      given-holds : (y : Reason) → cond (eqb c 0) (Given (why S L l i)) (Refused (beside s c)) ≡ Given y → Nothing (AtWhy Run Step) × Because S L l i y
+      given-holds y e =
+          let (z, same) = reason-so s c (why S L l i) (eqb c 0) refl y e in
+          (exact-c .1 .0 z, why-exact S L l i (is-sound z) y .0 same)
+
+      holds-given : (y : Reason) → Nothing (AtWhy Run Step) × Because S L l i y → cond (eqb c 0) (Given (why S L l i)) (Refused (beside s c)) ≡ Given y
+      holds-given y (none, true-so) =
+          let z = no-refusal none in
+          given-of z ∙ ap Given (why-exact S L l i (is-sound z) y .1 true-so)
 
 -- ---- what the next row shows, where c is the next step's refusal
 module _ (s : Lent) (L : Lock) (l : List Rec) (i c : ℕ) (is : c ≡ entryRefusal (scriptsOf s) L l i) where

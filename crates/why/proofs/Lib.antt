@@ -3,5 +3,6 @@ pub mod Blockers
 pub mod Reasons
 pub mod Tells
 pub mod Answers
+pub mod Where
 pub mod WayOn
 pub mod Cases

@@ -22,7 +22,7 @@ use Rattle.machine.proofs.Accesses.{code-1, code-3, code-8, code-13, code-14}
 use Rattle.machine.proofs.RunLaws.{row-says, refused-entry}
 use Rattle.machine.proofs.Steps.{passed}
 use Rattle.why.specs.Why.{hasFlag, isCounted, blockerOf, why}
-use Rattle.why.specs.Reasons.{Names, holder, reader, SeesFull, LosesCount, MeetsFlag, MeetsReaders, Failed, sees-full, loses-count, meets-flag, meets-readers, Waits, HasFlag, Counted, NoneBelow, Because, not-waiting, count-full, count-changed, flag-held, flag-dropped, counted-by, counted-dropped, WaitsExactly, WhyExact, OneReason, OfFlag, OfReaders, FitsRow, ForAnother, NotFinished}
+use Rattle.why.specs.Reasons.{Names, holder, reader, SeesFull, LosesCount, MeetsFlag, MeetsReaders, Failed, sees-full, loses-count, meets-flag, meets-readers, Waits, HasFlag, Counted, NoneBelow, Because, not-waiting, count-full, count-changed, flag-held, flag-dropped, counted-by, counted-dropped, WaitsExactly, WhyExact, OneReason, OfFlag, OfReaders, FitsRow, ForAnother, NotFinished, LowestCounted}
 use Rattle.why.specs.declared.Reason.{Reason}
 use Rattle.why.specs.declared.Reason.the-variants.{NotWaiting, CountFull, CountChanged, Flag, Readers}
 use Rattle.why.specs.declared.Blocker.the-variants.{Record}
@@ -105,18 +105,18 @@ module _ (S : Scripts) (L : Lock) (l : List Rec) (i : ℕ) where
     isDone nothing = true
     isDone (refused k) = false
 
-    full-here : SeesFull M row → L .rc .0 ≡ M
+    pub full-here : SeesFull M row → L .rc .0 ≡ M
     full-here (code, got) = loaded _ _ (code-1 S L l i h code .2 .0) ∙ got
 
-    readers-here : MeetsReaders row → L .rc .0 ≢ 0
+    pub readers-here : MeetsReaders row → L .rc .0 ≢ 0
     readers-here (code, got) z = got (sym (loaded _ _ (code-8 S L l i h code .2 .0)) ∙ z)
 
-    changed-here : LosesCount row → L .rc .0 ≢ here l i .seen .0
+    pub changed-here : LosesCount row → L .rc .0 ≢ here l i .seen .0
     changed-here code same =
         let won : isDone (compareExchange eqb (here l i .seen .0) (here l i .seen .0 + 1) (L .rc .0) .answers) ≡ true = rw (eq-eqb _ _ same) refl in
         true≢false (sym won ∙ ap isDone (code-13 S L l i h code .2 .0))
 
-    up-here : MeetsFlag row → L .exc ≡ true
+    pub up-here : MeetsFlag row → L .exc ≡ true
     up-here (inl (code, got)) = loaded _ _ (code-3 S L l i h code .2 .0) ∙ eq-eqb _ _ got
     up-here (inr code) = go (L .exc) (ap isDone (code-14 S L l i h code .2 .0))
       where
@@ -138,7 +138,7 @@ module _ (S : Scripts) (L : Lock) (l : List Rec) (i : ℕ) where
         let some = readers-here m in
         blocker-by isCounted Counted says-counted l (λ b. Because S L l i (Readers b))
         (λ w lt p below. counted-by w m some lt p below)
-        (λ free. counted-dropped m some free (dropped-read S L l h some free))
+        (λ free. counted-dropped m some free (dropped-read S L l h free))
 
     because : Because S L l i (why S L l i)
     because =
@@ -170,6 +170,13 @@ waits-exactly S L l i = (waiting-is S L l i, is-waiting S L l i)
 
 pub why-exact : WhyExact
 why-exact S L l i h y = (λ e. rw e at (because S L l i h), only S L l i h y)
+
+-- the reader that is named
+pub lowest-counted : LowestCounted
+lowest-counted S L l i w h e = go (why-exact S L l i h (Readers (Record w)) .0 e)
+  where
+    go : Because S L l i (Readers (Record w)) → (w < length l) × Counted (here l w) × NoneBelow Counted l w
+    go (counted-by v m some lt p below) = (lt, p, below)
 
 pub one-reason : OneReason
 one-reason S L l i h w = (is-waiting S L l i w, because S L l i h, λ z b. sym (only S L l i h z b))

@@ -1,5 +1,5 @@
--- The answers in computed states: each of the seven, and next to it a state that differs in one thing and has another answer; and each refusal,
--- next to a state that is not refused.
+-- The answers in computed states: each of the seven, and next to it a state that differs in one thing and has another answer; each refusal, next
+-- to a state that is not refused; and the numbers of each.
 use Prim.Native.Nat.{ℕ, _-_, _^_}
 use mathlib.Core.Path.{_≡_}
 use mathlib.Core.Bool.{Bool, true, false}
@@ -17,10 +17,11 @@ use Rattle.machine.specs.Numbers.{lockOf, recOf, alone}
 use Rattle.machine.specs.declared.Mover.the-variants.{Nobody}
 use Rattle.machine.specs.declared.Place.{Place}
 use Rattle.machine.specs.declared.Place.the-variants.{Idle, ReadTry, ReadCheck, WriteWait, WriteTake}
-use Rattle.why.specs.Told.{toldLent}
+use Rattle.why.specs.Told.{toldLent, numbersOf}
 use Rattle.why.specs.declared.Reason.the-variants.{NotWaiting, CountFull, CountChanged, Flag, Readers}
 use Rattle.why.specs.declared.Blocker.the-variants.{Record, Dropped}
 use Rattle.why.specs.declared.Told.{Told}
+use Rattle.why.specs.declared.Numbers.{Numbers}
 use Rattle.why.specs.declared.Told.the-variants.{Refused, Given}
 
 -- with the top m, a first value 5 and the values 5 and 13 permitted, after a schedule: what is told of thread i
@@ -52,6 +53,10 @@ leaving = lists (2 ∷ 2 ∷ []) (1 ∷ 6 ∷ 4 ∷ 5 ∷ []) (0 ∷ 0 ∷ 0 ∷
 abbrev parting : Lent
 parting = lists (2 ∷ 1 ∷ []) (1 ∷ 6 ∷ 7 ∷ []) (0 ∷ 0 ∷ 0 ∷ [])
 
+-- a writer that drops its handle, and a thread that takes the lock apart
+abbrev closing : Lent
+closing = lists (2 ∷ 1 ∷ []) (4 ∷ 6 ∷ 7 ∷ []) (0 ∷ 0 ∷ 0 ∷ [])
+
 -- ---- the reasons
 abbrev pub ReasonCases : Type 0
 ReasonCases =
@@ -64,6 +69,8 @@ ReasonCases =
     -- a reader sees the flag, or the writer has not put it up yet
     × (toldAfter meeting 2 (0 ∷ 0 ∷ 1 ∷ []) 0 ≡ Given (Flag (Record 1)))
     × (toldAfter meeting 2 (0 ∷ 0 ∷ []) 0 ≡ Given NotWaiting)
+    -- and the writer waits for that reader: each is the other's reason
+    × (toldAfter meeting 2 (0 ∷ 0 ∷ 1 ∷ []) 1 ≡ Given (Readers (Record 0)))
     -- a writer meets the flag, whatever place it is held at, or it is down again
     × (toldAfter writers 2 (1 ∷ []) 0 ≡ Given (Flag (Record 1)))
     × (toldAfter writers 2 (1 ∷ 1 ∷ []) 0 ≡ Given (Flag (Record 1)))
@@ -84,6 +91,9 @@ ReasonCases =
     × (toldAfter leaving 2 (0 ∷ 0 ∷ 0 ∷ 1 ∷ []) 1 ≡ Given (Readers (Record 0)))
     -- the same of a thread that takes the lock apart
     × (toldAfter parting 2 (0 ∷ 0 ∷ 0 ∷ 0 ∷ 1 ∷ []) 1 ≡ Given (Readers Dropped))
+    -- it meets a flag that a dropped handle keeps up; while the holder is busy it is refused
+    × (toldAfter closing 2 (0 ∷ 0 ∷ 0 ∷ 0 ∷ []) 1 ≡ Given (Flag Dropped))
+    × (toldAfter closing 2 (0 ∷ []) 1 ≡ refused othersBusy)
 
 -- ---- the refusals of the call
 -- the same lists with a script of 65 operations, with an operation missing, with one that is unknown
@@ -141,7 +151,7 @@ StepCases =
 abbrev filled : ℕ → Told
 filled rc = toldLent (alone (1 ∷ [])) (lockOf Any (2 ^ 64 - 1) false rc (Full 5) rc 0 Nobody false) (recOf 0 Idle 0 0 ∷ []) 0
 
--- a lone reader that has counted itself, and a flag that is up or down: no record holds it
+-- a lone reader that has counted itself, and a flag that is up by a dropped write, which leaves the cell empty, or down
 abbrev counted : Bool → Content → ℕ → Told
 counted exc cell writes = toldLent (alone (1 ∷ [])) (lockOf Any 3 exc 1 cell 0 writes Nobody false) (recOf 0 ReadCheck 0 0 ∷ []) 0
 
@@ -168,5 +178,21 @@ LentCases =
     × (seeing 1 ≡ Given NotWaiting)
     × (seeing 2 ≡ Given CountChanged)
 
+-- ---- in numbers
+abbrev numbers : ℕ → ℕ → ℕ → Numbers
+numbers answer reason who = record { answer = answer; reason = reason; who = who }
+
+abbrev pub NumberCases : Type 0
+NumberCases =
+    (numbersOf (toldAfter readers 2 [] 1) ≡ numbers 0 0 0)
+    × (numbersOf (toldAfter readers 1 (0 ∷ 0 ∷ 0 ∷ []) 1) ≡ numbers 0 1 0)
+    × (numbersOf (toldAfter readers 2 (1 ∷ 0 ∷ 0 ∷ []) 1) ≡ numbers 0 2 0)
+    × (numbersOf (toldAfter writers 2 (1 ∷ []) 0) ≡ numbers 0 3 1)
+    × (numbersOf (toldAfter writers 2 (0 ∷ 0 ∷ 0 ∷ 0 ∷ []) 1) ≡ numbers 0 4 0)
+    × (numbersOf (toldAfter crowd 3 (1 ∷ 1 ∷ 1 ∷ 0 ∷ 2 ∷ []) 2) ≡ numbers 0 5 1)
+    × (numbersOf (toldAfter leaving 2 (0 ∷ 0 ∷ 0 ∷ 1 ∷ 0 ∷ []) 1) ≡ numbers 0 6 0)
+    × (numbersOf (toldAfter ended 1 (0 ∷ []) 1) ≡ numbers 13 0 0)
+    × (numbersOf (toldAtFirst long 1) ≡ numbers 5 0 0)
+
 abbrev pub Cases : Type 0
-Cases = ReasonCases × CallCases × StepCases × LentCases
+Cases = ReasonCases × CallCases × StepCases × LentCases × NumberCases

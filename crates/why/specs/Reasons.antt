@@ -6,18 +6,19 @@ use mathlib.Core.Logic.{_≢_, _↔_, _⊎_}
 use mathlib.Core.Bool.{true, false}
 use mathlib.Core.List.{List}
 use lib.ListN.{length}
-use Rattle.machine.specs.Names.{loadsRc, loadsExc, waitsRc, failsRc, failsExc}
-use Rattle.machine.specs.Refusals.{Exact}
+use Rattle.machine.specs.Names.{acquireRead, acquireWrite, intoInner, loadsRc, loadsExc, waitsRc, failsRc, failsExc}
+use Rattle.machine.specs.Refusals.{Nothing, Exact}
 use Rattle.machine.specs.Lists.{Lent, scriptsOf, beside}
-use Rattle.machine.specs.Step.{Scripts, here, step}
+use Rattle.machine.specs.Step.{Scripts, here, opOf, entryRefusal, step}
 use Rattle.machine.specs.Sound.{Sound}
 use Rattle.machine.specs.When.{AtEntry}
 use Rattle.machine.specs.declared.Lock.{Lock}
 use Rattle.machine.specs.declared.Rec.{Rec}
 use Rattle.machine.specs.declared.Row.{Row}
 use Rattle.machine.specs.declared.Refusal.{Refusal}
-use Rattle.machine.specs.declared.Place.the-variants.{ReadCheck, ReadBack, Reading, WriteWait, WriteTake, Writing, WritePut}
+use Rattle.machine.specs.declared.Place.the-variants.{Idle, ReadTry, ReadCheck, ReadBack, Reading, WriteWait, WriteTake, Writing, WritePut}
 use Rattle.why.specs.Why.{why, reasonNo, whoNo}
+use Rattle.why.specs.Told.{numbersOf}
 use Rattle.why.specs.declared.Reason.{Reason}
 use Rattle.why.specs.declared.Reason.the-variants.{NotWaiting, CountFull, CountChanged, Flag, Readers}
 use Rattle.why.specs.declared.Blocker.{Blocker}
@@ -56,6 +57,14 @@ pub data Failed (M : ℕ) (row : Row) : Type 0 where
 abbrev pub Waits : Scripts → Lock → List Rec → ℕ → Type 0
 Waits S L l i = let row = step S L l i .row in (row .answer ≡ 0) × Failed (L .top .0) row
 
+-- the same without the row: where the thread stands, its operation, and the lock
+pub data Stuck (S : Scripts) (L : Lock) (l : List Rec) (i : ℕ) : Type 0 where
+  at-the-top : here l i .place ≡ Idle → opOf S l i ≡ acquireRead → L .rc .0 ≡ L .top .0 → Stuck S L l i
+  not-as-seen : here l i .place ≡ ReadTry → L .rc .0 ≢ here l i .seen .0 → Stuck S L l i
+  sees-the-flag : here l i .place ≡ ReadCheck → L .exc ≡ true → Stuck S L l i
+  finds-the-flag : here l i .place ≡ Idle → (opOf S l i ≡ acquireWrite) ⊎ (opOf S l i ≡ intoInner) → L .exc ≡ true → Stuck S L l i
+  is-not-alone : here l i .place ≡ WriteWait → L .rc .0 ≢ 0 → Stuck S L l i
+
 -- ---- who stands in the way
 -- the record holds the flag
 pub data HasFlag (r : Rec) : Type 0 where
@@ -84,15 +93,19 @@ pub data Because (S : Scripts) (L : Lock) (l : List Rec) (i : ℕ) : Reason → 
   count-full : SeesFull (L .top .0) (step S L l i .row) → L .rc .0 ≡ L .top .0 → Because S L l i CountFull
   count-changed : LosesCount (step S L l i .row) → L .rc .0 ≢ here l i .seen .0 → Because S L l i CountChanged
   flag-held : (w : ℕ) → MeetsFlag (step S L l i .row) → L .exc ≡ true → w < length l → HasFlag (here l w) → Because S L l i (Flag (Record w))
-  flag-dropped : MeetsFlag (step S L l i .row) → L .exc ≡ true → NoRecord HasFlag l → L .writes .0 ≢ 0 → Because S L l i (Flag Dropped)
+  flag-dropped : MeetsFlag (step S L l i .row) → L .exc ≡ true → NoRecord HasFlag l → L .writes .0 ≡ 1 → Because S L l i (Flag Dropped)
   counted-by : (w : ℕ) → MeetsReaders (step S L l i .row) → L .rc .0 ≢ 0 → w < length l → Counted (here l w) → NoneBelow Counted l w
       → Because S L l i (Readers (Record w))
-  counted-dropped : MeetsReaders (step S L l i .row) → L .rc .0 ≢ 0 → NoRecord Counted l → L .reads .0 ≢ 0 → Because S L l i (Readers Dropped)
+  counted-dropped : MeetsReaders (step S L l i .row) → L .rc .0 ≢ 0 → NoRecord Counted l → L .rc .0 ≡ L .reads .0 → Because S L l i (Readers Dropped)
 
 -- ---- the statements
 -- 'not waiting' exactly where the thread is not, of any state
 abbrev pub WaitsExactly : Type 0
 WaitsExactly = (S : Scripts) (L : Lock) (l : List Rec) (i : ℕ) → (why S L l i ≢ NotWaiting) ↔ Waits S L l i
+
+-- in words over the state: its next step is not refused, and it stands so
+abbrev pub WaitsWhere : Type 0
+WaitsWhere = (S : Scripts) (L : Lock) (l : List Rec) (i : ℕ) → Sound S L l → Waits S L l i ↔ ((entryRefusal S L l i ≡ 0) × Stuck S L l i)
 
 -- the answer is y exactly if y is the reason: it is true, and there is no other
 abbrev pub WhyExact : Type 0
@@ -123,6 +136,12 @@ FitsRow =
     × (OfFlag y ↔ MeetsFlag row)
     × (OfReaders y ↔ MeetsReaders row)
 
+-- the reader that is named is counted, and none below it is
+abbrev pub LowestCounted : Type 0
+LowestCounted =
+    (S : Scripts) (L : Lock) (l : List Rec) (i w : ℕ) → Sound S L l → why S L l i ≡ Readers (Record w)
+    → (w < length l) × Counted (here l w) × NoneBelow Counted l w
+
 -- the record w is named in the answer
 pub data Names : Reason → ℕ → Type 0 where
   holder : {w : ℕ} → Names (Flag (Record w)) w
@@ -138,7 +157,17 @@ OnlyHolder =
     (S : Scripts) (L : Lock) (l : List Rec) (w : ℕ) → Sound S L l → w < length l → HasFlag (here l w)
     → ((j : ℕ) → j < length l → HasFlag (here l j) → j ≡ w) × (L .writes .0 ≡ 0) × (L .finished ≡ false)
 
--- an entry of a finished lock is refused, so that its flag is nobody's reason
+-- where the flag is up, one record holds it, or one dropped write does, or the lock is finished; and nowhere else
+pub data HeldBy (L : Lock) (l : List Rec) : Type 0 where
+  a-record : (w : ℕ) → w < length l → HasFlag (here l w) → ((j : ℕ) → j < length l → HasFlag (here l j) → j ≡ w) → L .writes .0 ≡ 0
+      → L .finished ≡ false → HeldBy L l
+  a-dropped-write : NoRecord HasFlag l → L .writes .0 ≡ 1 → L .finished ≡ false → HeldBy L l
+  the-end : NoRecord HasFlag l → L .writes .0 ≡ 0 → L .finished ≡ true → HeldBy L l
+
+abbrev pub FlagUp : Type 0
+FlagUp = (S : Scripts) (L : Lock) (l : List Rec) → Sound S L l → (L .exc ≡ true) ↔ HeldBy L l
+
+-- nobody waits for a finished lock: its flag is nobody's reason
 abbrev pub NotFinished : Type 0
 NotFinished = (S : Scripts) (L : Lock) (l : List Rec) (i : ℕ) → Waits S L l i → L .finished ≡ false
 
@@ -152,14 +181,14 @@ pub data AtWhy (Run Step : ℕ → Type 0) : ℕ → Type 0 where
   as-run : {k : ℕ} → Run k → AtWhy Run Step k
   next-step : {k : ℕ} → Step k → AtWhy Run Step k
 
--- the number of what is answered, 0 where a reason is given
+-- the refusal's number, 0 where a reason is given
 abbrev pub numberOf : Told → ℕ
-numberOf (Refused x) = x .number
-numberOf (Given y) = 0
+numberOf r = numbersOf r .answer
 
--- the refusal is exact, with what belongs beside it; and a reason that is given is that of a sound state, and is true
+-- the refusal is exact, with what belongs beside it; and an answer is given exactly where nothing is refused and it holds, in a sound state
 pub record Answers (s : Lent) (Run : ℕ → Type 0) (L : Lock) (l : List Rec) (i : ℕ) (r : Told) : Type 0 where
   pub exact : Exact (AtWhy Run (AtEntry (scriptsOf s) L l i)) (numberOf r)
   pub next-to : (x : Refusal) → r ≡ Refused x → x ≡ beside s (x .number)
   pub sound : (y : Reason) → r ≡ Given y → Sound (scriptsOf s) L l
-  pub because : (y : Reason) → r ≡ Given y → Because (scriptsOf s) L l i y
+  pub given : (y : Reason) → (r ≡ Given y) ↔ (Nothing (AtWhy Run (AtEntry (scriptsOf s) L l i)) × Because (scriptsOf s) L l i y)
+  pub told : Nothing (AtWhy Run (AtEntry (scriptsOf s) L l i)) → (y : Reason) × (r ≡ Given y)

@@ -6,7 +6,7 @@ use native.Mathlib.Omega.{arith}
 use lib.ListN.{length, take, drop}
 use lib.Seq.{take-all}
 use Rattle.machine.specs.Names.{noThread, rowWords}
-use Rattle.machine.specs.Refusals.{Exact}
+use Rattle.machine.specs.Refusals.{Nothing, Exact}
 use Rattle.machine.specs.Lists.{Lent, scriptsOf}
 use Rattle.machine.specs.Step.{entryRefusal, step}
 use Rattle.machine.specs.Sound.{Sound}
@@ -32,17 +32,17 @@ use Rattle.lock_promises.proofs.Reached.{runs-on, comes}
 use Rattle.lock_promises.proofs.Accesses.{one-entry, one-entry-by-value}
 use Rattle.why.specs.Why.{why}
 use Rattle.why.specs.Told.{toldBy, whyRefusal}
-use Rattle.why.specs.Reasons.{Answers, Names, numberOf}
+use Rattle.why.specs.Reasons.{Answers, AtWhy, as-run, next-step, Names, numberOf}
 use Rattle.why.specs.WayOn.{WayOn}
 use Rattle.why.specs.declared.Reason.{Reason}
 use Rattle.why.specs.declared.Told.{Told}
 use Rattle.why.specs.declared.Told.the-variants.{Given}
 use Rattle.why.proofs.Answers.{lists-below, answers-so, number-told, answer-shown, failure-shown}
 use Rattle.why.proofs.Reasons.{why-exact}
-use Rattle.why.proofs.WayOn.{named-goes-on as way-on}
+use Rattle.why.proofs.WayOn.{named-goes-on as way-on, full-goes-down, none-for-dropped}
 use Rattle.why_code.specs.ByValue.{whyRefusalOf, toldOf}
 use Rattle.why_code.proofs.Calls.{run-first, then-entry, run-first-of-list, then-entry-of-list}
-use Rattle.why_promises.specs.Promises.{Answered, AnsweredByValue, AskedOfReached, AskedOfReachedByValue, Shows, ShownByRun, ShownByRunByValue, NamedGoesOn, NamedGoesOnByValue}
+use Rattle.why_promises.specs.Promises.{Answered, AnsweredByValue, AskedOfReached, AskedOfReachedByValue, AsEntry, Unnamed, OthersGoOn, OthersGoOnByValue, Shows, ShownByRun, ShownByRunByValue, NamedGoesOn, NamedGoesOnByValue}
 
 -- ---- a run's numbers are below an entry's
 run-below : (s : Lent) (L : Lock) (l : List Rec) (k : ℕ) → AtRun s L l k → k < noThread
@@ -92,14 +92,22 @@ answered-by-value s count L recs i r is =
     (run-first s count L l i) (then-entry s count L l i) (sound-by-value s count L recs))
 
 -- ---- a state that calls reach
-exact-here : (s : Lent) (L : Lock) (l : List Rec) (i c : ℕ) → c ≡ entryRefusal (scriptsOf s) L l i → (r : Told) → r ≡ toldBy s c (why (scriptsOf s) L l i)
-    → Exact (AtEntry (scriptsOf s) L l i) (numberOf r)
-exact-here s L l i c c-is r is =
-    subst (Exact (AtEntry (scriptsOf s) L l i)) (sym (ap numberOf is ∙ number-told s L l i c c-is ∙ c-is)) (entry-exact (scriptsOf s) L l i)
+-- where a run is not refused, the conditions are the entry's alone
+as-entry : (s : Lent) (L : Lock) (l : List Rec) (i c : ℕ) (Run : ℕ → Type 0) → Nothing Run → c ≡ entryRefusal (scriptsOf s) L l i
+    → (r : Told) → r ≡ toldBy s c (why (scriptsOf s) L l i) → Answers s Run L l i r → AsEntry s L l i r
+as-entry s L l i c Run never c-is r is a = (
+  subst (Exact (AtEntry (scriptsOf s) L l i)) (sym (ap numberOf is ∙ number-told s L l i c c-is ∙ c-is)) (entry-exact (scriptsOf s) L l i),
+  λ none. let (y, told) = a .told (nothing none) in (y, told, a .given y .0 told .1),
+)
+  where
+    nothing : Nothing (AtEntry (scriptsOf s) L l i) → Nothing (AtWhy Run (AtEntry (scriptsOf s) L l i))
+    nothing none k (as-run w) = never k w
+    nothing none k (next-step w) = none k w
 
 pub asked-of-reached : AskedOfReached
 asked-of-reached s q m v L l rows reached i r is =
-    exact-here s L l i (whyRefusal s L l i) (then-entry-of-list s L l i (runs-on s q m v (comes reached))) r is
+    let none = runs-on s q m v (comes reached) in
+    as-entry s L l i (whyRefusal s L l i) (AtRun s L l) (run-exact s L l .1 .0 none) (then-entry-of-list s L l i none) r is (answered s L l i r is)
 
 pub asked-of-reached-by-value : AskedOfReachedByValue
 unfolding toldOf
@@ -108,7 +116,8 @@ asked-of-reached-by-value s q m v count L recs rows reached i r is =
     let ran : RunReturn = ranOf count recs (runOf s count L recs [] 0 []) in
     let none = no-number s (runRefusalOf s count L l) (ran .refusal) (run-told-by-value s count L recs [] 0 [] ran refl)
     (runs-go-on-by-value s q m v count L recs rows reached [] 0 [] ran refl) in
-    exact-here s L l i (whyRefusalOf s count L l i) (then-entry s count L l i none) r is
+    as-entry s L l i (whyRefusalOf s count L l i) (AtRunOf s count L l) (run-exact-of s count L recs .1 .0 none) (then-entry s count L l i none) r is
+    (answered-by-value s count L recs i r is)
 
 -- ---- a run of that entry
 row-in : (row : Row) (rest trace : List ℕ) → trace ≡ wordsOf (row ∷ []) ++ rest → rowIn trace ≡ row
@@ -136,12 +145,15 @@ shown-by-run-by-value s count L recs i r is trace ran trace′ ran-is trace-is n
     shows-here s L l i (whyRefusalOf s count L l i) (then-entry s count L l i no-refusal) r is (rowIn trace′) (row-in (step (scriptsOf s) L l i .row) (drop rowWords trace) trace′ words)
 
 -- ---- demand 3
--- the reason that is given is the one of the state, so whoever it names is named there
+-- the reason that is given is the one of the state
+of-state : (s : Lent) (Run : ℕ → Type 0) (L : Lock) (l : List Rec) (i : ℕ) (y : Reason) (r : Told) → Answers s Run L l i r → r ≡ Given y
+    → Sound (scriptsOf s) L l × (why (scriptsOf s) L l i ≡ y)
+of-state s Run L l i y r a is = let h = a .sound y is in (h, why-exact (scriptsOf s) L l i h y .1 (a .given y .0 is .1))
+
 goes-on-here : (s : Lent) (Run : ℕ → Type 0) (L : Lock) (l : List Rec) (i w : ℕ) (y : Reason) (r : Told) → Answers s Run L l i r → r ≡ Given y → Names y w
     → Tidy (scriptsOf s) L l → WayOn (scriptsOf s) L l w
 goes-on-here s Run L l i w y r a is names tidy =
-    let h = a .sound y is in
-    let same = why-exact (scriptsOf s) L l i h y .1 (a .because y is) in
+    let (h, same) = of-state s Run L l i y r a is in
     way-on (scriptsOf s) L l i w h tidy (subst (λ (x : Reason). Names x w) (sym same) names)
 
 pub named-goes-on : NamedGoesOn
@@ -150,3 +162,17 @@ named-goes-on s L l i w y r told = goes-on-here s (AtRun s L l) L l i w y r (ans
 pub named-goes-on-by-value : NamedGoesOnByValue
 named-goes-on-by-value s count L recs i w y r told =
     goes-on-here s (AtRunOf s count L (take count recs)) L (take count recs) i w y r (answered-by-value s count L recs i r told)
+
+unnamed-here : (s : Lent) (Run : ℕ → Type 0) (L : Lock) (l : List Rec) (i : ℕ) (y : Reason) (r : Told) → Answers s Run L l i r → r ≡ Given y
+    → Tidy (scriptsOf s) L l → Unnamed s L l y
+unnamed-here s Run L l i y r a is tidy =
+    let (h, same) = of-state s Run L l i y r a is in
+    let never = none-for-dropped (scriptsOf s) L l i h tidy in
+    (λ full. full-goes-down (scriptsOf s) L l i h tidy (same ∙ full), λ e. never .0 (same ∙ e), λ e. never .1 (same ∙ e))
+
+pub others-go-on : OthersGoOn
+others-go-on s L l i y r told = unnamed-here s (AtRun s L l) L l i y r (answered s L l i r told)
+
+pub others-go-on-by-value : OthersGoOnByValue
+others-go-on-by-value s count L recs i y r told =
+    unnamed-here s (AtRunOf s count L (take count recs)) L (take count recs) i y r (answered-by-value s count L recs i r told)
