@@ -91,6 +91,7 @@ alike bytes words words′ w w′ c c′ = record {
   scripts = λ late. c .scripts late ∙ sym (c′ .scripts late);
   stood = c .stood ∙ sym (c′ .stood);
   left = λ there. c .left there ∙ sym (c′ .left (c′ .stood ∙ sym (c .stood) ∙ there));
+  stands = λ late. c .stands late ∙ sym (c′ .stands late);
 }
 
 pub any-cutting : AnyCutting

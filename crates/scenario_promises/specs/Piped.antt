@@ -86,6 +86,7 @@ pub record Alike (file words words′ : List ℕ) (w w′ : World) : Type 0 wher
   pub scripts : 3 ≤ stageNo (readingOf file .scenario .stage) → lentIn w ≡ lentIn w′
   pub stood : w .state .stood ≡ w′ .state .stood
   pub left : w .state .stood ≡ true → listed (lentIn w) (w .standing) ≡ listed (lentIn w′) (w′ .standing)
+  pub stands : 3 ≤ stageNo (readingOf file .scenario .stage) → listed (lentIn w) (standingIn w) ≡ listed (lentIn w′) (standingIn w′)
 
 -- each may have stopped at another chunk, where the file is refused: what is left of it counts as handed over
 abbrev pub AnyCutting : Type 0

@@ -1,18 +1,26 @@
 -- What is printed at the end of a file is what the file prints: the reader has its scripts, and the lock and the records that its schedule leaves.
 -- Assumes nothing.
 use Prim.Native.Nat.{ℕ, zero, suc, _+_, _%_, _≤_, min}
+use native.Mathlib.Nat.{zero-add}
 use mathlib.Core.Path.{_≡_, refl, sym, ap, subst, _∙_}
 use mathlib.Core.Logic.{_≢_}
 use mathlib.Core.Bool.{Bool, true, false, cond}
 use mathlib.Core.List.{List, _++_}
 use native.Mathlib.Omega.{arith}
-use lib.Dec.{eqb, ltb}
+use lib.Dec.{eqb, ltb, leb}
 use lib.ListN.{length, take, length-take, length-replicate}
-use borrow.Author.Tests.{eqb-true, eqb-false, ltb-false}
+use lib.Seq.{sets}
+use borrow.Author.Tests.{eqb-true, eqb-false, ltb-false, le-leb}
 use Rattle.machine.specs.Lists.{Lent, scriptsOf}
-use Rattle.machine.specs.Words.{unbegun}
+use Rattle.machine.specs.Words.{unused, unbegun}
+use Rattle.machine.specs.Refusals.{Exact}
+use Rattle.machine.specs.Setup.{fresh}
+use Rattle.machine.specs.Run.{run}
+use Rattle.machine.specs.When.{AtEntry}
+use Rattle.machine.proofs.ExactEntry.{entry-exact}
 use Rattle.machine.proofs.RunRule.{run-length}
 use Rattle.lock.proofs.Begins.{count-most}
+use Rattle.lock_promises.proofs.Reached.{Comes, runs-on}
 use Rattle.scenario_lines.specs.Lines.{whole}
 use Rattle.scenario_text.specs.Lines.{refusal}
 use Rattle.scenario.specs.Names.{wrongLine, countedTo}
@@ -28,11 +36,13 @@ use Rattle.scenario_read.specs.Feed.{World, lentIn, stopOf}
 use Rattle.scenario_read.specs.declared.Stop.{Stop}
 use Rattle.scenario_read.specs.declared.Stop.the-variants.{Refused, Over}
 use Rattle.scenario_promises.specs.Piped.{leftByFile, standingIn, ComesTo}
-use Rattle.why.specs.Told.{toldLent}
+use Rattle.why.specs.Told.{whyRefusal, toldLent}
 use Rattle.why.specs.declared.Told.{Told}
+use Rattle.why.proofs.Answers.{number-told}
+use Rattle.why_code.proofs.Calls.{then-entry-of-list}
 use Rattle.why_code.proofs.Laws.{as-lent}
-use Rattle.why_prints.specs.Prints.{whyHeader, lineText, linesText, answersText, whyPrinted, toldAt, answersOf, endText}
-use Rattle.why_prints.specs.Laws.{WhyByReader}
+use Rattle.why_prints.specs.Prints.{mostBytes, whyHeader, lineText, linesText, answersText, whyPrinted, toldAt, answersOf, endText}
+use Rattle.why_prints.specs.Laws.{WhyByReader, WhyStored, FileAnswers}
 
 -- ---- a file that is not refused has come to its pred line
 late-by : (r : Reading) (b c : Bool) → eqb (r .refused) 0 ≡ b → ltb (stageNo (r .scenario .stage)) 3 ≡ c
@@ -115,3 +125,22 @@ module _ (file words : List ℕ) (w : World) (c : ComesTo file words w) where
 pub why-by-reader : WhyByReader
 unfolding whyPrinted
 why-by-reader file words w c room at = by-refusal file words w c (eqb (readingOf file .refused) 0) refl ∙ ap (λ (x : Stop). endText x (lentIn w) (standingIn w)) (sym (c .end room at))
+
+pub why-stored : WhyStored
+why-stored file words w c room at out enough =
+    let text = endText (stopOf (w .state) room at) (lentIn w) (standingIn w) in
+    let same : text ≡ whyPrinted file = sym (why-by-reader file words w c room at) in
+    let fits : leb (0 + mostBytes) (length out) ≡ true = le-leb (0 + mostBytes) (length out) (omega arith) in
+    (rw (fits, zero-add (length text)) (ap length same), rw fits (ap (sets out 0) same))
+
+-- ---- the answers of a file
+pub file-answers : FileAnswers
+file-answers file t none =
+    let s = readingOf file .scenario in
+    let p = leftByFile file in
+    let h = late file none in
+    let comes : Comes (s .lent) (s .pred) (s .top) (s .first) (run (scriptsOf (s .lent)) (unused (s .pred) (s .top) (s .first)) (fresh (s .threads)) (s .schedule)) =
+    record { records = s .threads; schedule = s .schedule; accepted = set-up file h; is = refl } in
+    let entry = then-entry-of-list (s .lent) (p .lock) (p .recs) t (runs-on (s .lent) (s .pred) (s .top) (s .first) comes) in
+    subst (Exact (AtEntry (scriptsOf (s .lent)) (p .lock) (p .recs) t)) (sym (number-told (s .lent) (p .lock) (p .recs) t (whyRefusal (s .lent) (p .lock) (p .recs) t) entry ∙ entry))
+    (entry-exact (scriptsOf (s .lent)) (p .lock) (p .recs) t)

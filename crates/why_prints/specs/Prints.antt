@@ -22,6 +22,10 @@ use Rattle.why_code.specs.ByValue.{toldOf}
 unfoldable pub whyHeader : List ℕ
 whyHeader = bytes "thread,answer,reason,who\r\n"
 
+-- the most bytes: the header, and a line for each of sixteen threads
+abbrev pub mostBytes : ℕ
+mostBytes = 1386
+
 -- of thread t
 abbrev pub lineText : ℕ → Told → List ℕ
 lineText t told = let n = numbersOf told in fourText t (n .answer) (n .reason) (n .who)
