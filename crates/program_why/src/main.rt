@@ -1,7 +1,10 @@
 // A scenario on standard input, and on standard output, once it has been run, why each thread waits, a line for each; or its refusal alone, which is
-// said on standard error too. What is wrong with a refused line is not said here: whoever runs it finds that.
+// said on standard error too. What is wrong with a refused line is not said here: a run of the scenario tells it.
 ghost use Prim.Native.Nat.{_≤_};
+ghost use mathlib.Core.Path.{_≡_};
 ghost use lib.ListN.{length};
+ghost use lib.Seq.{sets};
+ghost use Rattle.program_why.specs.Answered.{answered};
 use libc::STDERR_FILENO;
 use libc::STDOUT_FILENO;
 use program_intake::Came;
@@ -76,7 +79,9 @@ fn turn(
     rows: &mut [u64],
     chunk: &mut [u8],
     out: &mut [u8],
-) -> Run {
+) -> Run
+    requires { ⌜ 1386 ≤ length (now out) ⌝ }
+{
     let intake = run.intake;
     let input = program_intake::read_chunk(intake, chunk);
     let came = program_intake::take_more(
@@ -94,7 +99,9 @@ fn turn(
 }
 
 // A read that fails is no end of the scenario: then nothing is printed.
-fn after(came: Came, lens: &[u64], ops: &[u64], vals: &[u64], out: &mut [u8]) -> Run {
+fn after(came: Came, lens: &[u64], ops: &[u64], vals: &[u64], out: &mut [u8]) -> Run
+    requires { ⌜ 1386 ≤ length (now out) ⌝ }
+{
     let intake = came.intake;
     let input = intake.input;
     let stop = came.stop;
@@ -113,24 +120,14 @@ fn after(came: Came, lens: &[u64], ops: &[u64], vals: &[u64], out: &mut [u8]) ->
 }
 
 // At the end of the scenario.
-fn answer(ends: bool, came: Came, lens: &[u64], ops: &[u64], vals: &[u64], out: &mut [u8]) {
+fn answer(ends: bool, came: Came, lens: &[u64], ops: &[u64], vals: &[u64], out: &mut [u8])
+    requires { ⌜ 1386 ≤ length (now out) ⌝ }
+{
     if !ends {
         return;
     }
-    let intake = came.intake;
-    let state = intake.state;
-    let read = state.read;
     let stop = came.stop;
-    let standing = program_intake::standing_of(intake);
-    let n = why_prints::put_end(
-        stop,
-        scenario_read::upto(lens, read.threads),
-        scenario_read::upto(ops, read.count),
-        scenario_read::upto(vals, read.count),
-        standing,
-        out,
-        0,
-    );
+    let n = put_answers(came, lens, ops, vals, out);
     let done = io::write_all(STDOUT_FILENO, program_chunks::front(out, n));
     if done && is_refused(stop) {
         io::write_all(STDERR_FILENO, program_chunks::front(out, n));
@@ -141,6 +138,28 @@ fn answer(ends: bool, came: Came, lens: &[u64], ops: &[u64], vals: &[u64], out: 
             b"trestlecat: the answers could not be written to their end, so they must not be used: make room, or let the reader take all of them\n",
         );
     }
+}
+
+// No answer is lost, since there is room.
+fn put_answers(came: Came, lens: &[u64], ops: &[u64], vals: &[u64], out: &mut [u8]) -> usize
+    requires { ⌜ 1386 ≤ length (now out) ⌝ }
+    ensures { λ r. ⌜ r ≡ length (answered came (now (lens .entry)) (now (ops .entry)) (now (vals .entry))) ⌝ }
+    ensures { λ _. ⌜ now (out .exit) ≡ sets (now (out .entry)) 0 (answered came (now (lens .entry)) (now (ops .entry)) (now (vals .entry))) ⌝ }
+{
+    let intake = came.intake;
+    let state = intake.state;
+    let read = state.read;
+    let stop = came.stop;
+    let standing = program_intake::standing_of(intake);
+    why_prints::put_end(
+        stop,
+        scenario_read::upto(lens, read.threads),
+        scenario_read::upto(ops, read.count),
+        scenario_read::upto(vals, read.count),
+        standing,
+        out,
+        0,
+    )
 }
 
 fn is_refused(stop: Stop) -> bool {

@@ -3,6 +3,9 @@ use borrow.Author.Needs.{needs}
 use Rattle.program_why.proofs.turn.Statement.{statement}
 use Rattle.program_why.proofs.turn.Tie as tie
 
+after-requires : tie.Need-after-requires
+after-requires c κs = c .before .before .before .before .before .before .before .before .before .before .before .before .before .before .before .before .before .before .before .before .before .before .before .before .before .before .before .before .before .before .before .before .before .before .pre
+
 same-length-6 : tie.Need-same-length-6
 same-length-6 c = c .before .before .before .before .before .before .before .before .before .before .before .before .before .before .before .before .before .before .before .before .before .before .before .before .before .before .chunk .given
 
@@ -12,7 +15,7 @@ turn-spec =
     (tie.spec
     (λ c κs. search needs)
     (λ c κs. search needs)
-    (λ c κs. search needs)
+    after-requires
     (λ c. search needs)
     (λ c. search needs)
     (λ c. search needs)
