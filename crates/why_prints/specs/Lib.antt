@@ -1,2 +1,3 @@
 pub mod Prints
 pub mod Laws
+pub mod Cases

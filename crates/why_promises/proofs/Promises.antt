@@ -39,7 +39,7 @@ use Rattle.why.specs.declared.Told.{Told}
 use Rattle.why.specs.declared.Told.the-variants.{Given}
 use Rattle.why.proofs.Answers.{lists-below, answers-so, number-told, answer-shown, failure-shown}
 use Rattle.why.proofs.Reasons.{why-exact}
-use Rattle.why.proofs.WayOn.{named-goes-on as way-on, full-goes-down, none-for-dropped}
+use Rattle.why.proofs.WayOn.{named-goes-on as way-on, full-goes-down, changed-looks-again, none-for-dropped}
 use Rattle.why_code.specs.ByValue.{whyRefusalOf, toldOf}
 use Rattle.why_code.proofs.Calls.{run-first, then-entry, run-first-of-list, then-entry-of-list}
 use Rattle.why_promises.specs.Promises.{Answered, AnsweredByValue, AskedOfReached, AskedOfReachedByValue, AsEntry, Unnamed, OthersGoOn, OthersGoOnByValue, Shows, ShownByRun, ShownByRunByValue, NamedGoesOn, NamedGoesOnByValue}
@@ -164,11 +164,15 @@ named-goes-on-by-value s count L recs i w y r told =
     goes-on-here s (AtRunOf s count L (take count recs)) L (take count recs) i w y r (answered-by-value s count L recs i r told)
 
 unnamed-here : (s : Lent) (Run : ℕ → Type 0) (L : Lock) (l : List Rec) (i : ℕ) (y : Reason) (r : Told) → Answers s Run L l i r → r ≡ Given y
-    → Tidy (scriptsOf s) L l → Unnamed s L l y
+    → Tidy (scriptsOf s) L l → Unnamed s L l i y
 unnamed-here s Run L l i y r a is tidy =
     let (h, same) = of-state s Run L l i y r a is in
-    let never = none-for-dropped (scriptsOf s) L l i h tidy in
-    (λ full. full-goes-down (scriptsOf s) L l i h tidy (same ∙ full), λ e. never .0 (same ∙ e), λ e. never .1 (same ∙ e))
+    let never = none-for-dropped (scriptsOf s) L l i h tidy in (
+      λ full. full-goes-down (scriptsOf s) L l i h tidy (same ∙ full),
+      λ changed. changed-looks-again (scriptsOf s) L l i h (same ∙ changed),
+      λ e. never .0 (same ∙ e),
+      λ e. never .1 (same ∙ e),
+    )
 
 pub others-go-on : OthersGoOn
 others-go-on s L l i y r told = unnamed-here s (AtRun s L l) L l i y r (answered s L l i r told)

@@ -9,13 +9,14 @@ use Rattle.cell.specs.declared.pred.Pred.{Pred}
 use Rattle.machine.specs.Names.{rowWords}
 use Rattle.machine.specs.Refusals.{Nothing, Exact}
 use Rattle.machine.specs.Lists.{Lent, scriptsOf}
-use Rattle.machine.specs.Step.{here}
+use Rattle.machine.specs.Step.{here, step}
 use Rattle.machine.specs.Run.{RunLeft, runLent}
 use Rattle.machine.specs.Tidy.{Tidy}
 use Rattle.machine.specs.When.{AtEntry, AtRun}
 use Rattle.machine.specs.declared.Lock.{Lock}
 use Rattle.machine.specs.declared.Rec.{Rec}
 use Rattle.machine.specs.declared.Row.{Row}
+use Rattle.machine.specs.declared.Place.the-variants.{Idle}
 use Rattle.lock.specs.declared.run.RunReturn.{RunReturn}
 use Rattle.lock_promises.specs.Given.{ReturnedByRun, LeftByRun}
 use Rattle.lock_promises.specs.Answers.{AtRunOf}
@@ -23,7 +24,7 @@ use Rattle.lock_promises.specs.Reached.{rowIn, Reached, ReachedByValue}
 use Rattle.why.specs.Reasons.{Failed, Counted, Because, Names, Answers, numberOf}
 use Rattle.why.specs.WayOn.{WayOut, WayOn}
 use Rattle.why.specs.declared.Reason.{Reason}
-use Rattle.why.specs.declared.Reason.the-variants.{NotWaiting, CountFull, Flag, Readers}
+use Rattle.why.specs.declared.Reason.the-variants.{NotWaiting, CountFull, CountChanged, Flag, Readers}
 use Rattle.why.specs.declared.Blocker.the-variants.{Dropped}
 use Rattle.why.specs.declared.Told.{Told}
 use Rattle.why.specs.declared.Told.the-variants.{Given}
@@ -71,7 +72,8 @@ ShownByRunByValue =
     → LeftByRun s count L recs (i ∷ []) 1 trace trace′ → ran .refusal .number ≡ 0 → rowWords ≤ length trace
     → Shows L r (rowIn trace′)
 
--- ---- demand 3: in a tidy state whoever is named has a way on, a full count goes down, and no dropped handle is blamed
+-- ---- demand 3: in a tidy state whoever is named has a way on, a full count goes down, who finds the count changed looks again, and no dropped handle
+-- is blamed
 abbrev pub NamedGoesOn : Type 0
 NamedGoesOn =
     (s : Lent) (L : Lock) (l : List Rec) (i w : ℕ) (y : Reason) (r : Told) → ToldOfList s L l i r → r ≡ Given y → Names y w → Tidy (scriptsOf s) L l
@@ -82,15 +84,18 @@ NamedGoesOnByValue =
     (s : Lent) (count : ℕ) (L : Lock) (recs : List Rec) (i w : ℕ) (y : Reason) (r : Told) → ToldByValue s count L recs i r → r ≡ Given y → Names y w
     → Tidy (scriptsOf s) L (take count recs) → WayOn (scriptsOf s) L (take count recs) w
 
--- what a thread that waits is told in a tidy state, where no record is named
-abbrev pub Unnamed : Lent → Lock → List Rec → Reason → Type 0
-Unnamed s L l y =
-    (y ≡ CountFull → (w : ℕ) × (w < length l) × Counted (here l w) × WayOut (scriptsOf s) L l w) × (y ≢ Flag Dropped) × (y ≢ Readers Dropped)
+-- what a thread i that waits is told in a tidy state, where no record is named
+abbrev pub Unnamed : Lent → Lock → List Rec → ℕ → Reason → Type 0
+Unnamed s L l i y =
+    (y ≡ CountFull → (w : ℕ) × (w < length l) × Counted (here l w) × WayOut (scriptsOf s) L l w)
+    × (y ≡ CountChanged → let x = step (scriptsOf s) L l i in (x .row .answer ≡ 0) × (here (x .recs) i .place ≡ Idle))
+    × (y ≢ Flag Dropped)
+    × (y ≢ Readers Dropped)
 
 abbrev pub OthersGoOn : Type 0
-OthersGoOn = (s : Lent) (L : Lock) (l : List Rec) (i : ℕ) (y : Reason) (r : Told) → ToldOfList s L l i r → r ≡ Given y → Tidy (scriptsOf s) L l → Unnamed s L l y
+OthersGoOn = (s : Lent) (L : Lock) (l : List Rec) (i : ℕ) (y : Reason) (r : Told) → ToldOfList s L l i r → r ≡ Given y → Tidy (scriptsOf s) L l → Unnamed s L l i y
 
 abbrev pub OthersGoOnByValue : Type 0
 OthersGoOnByValue =
     (s : Lent) (count : ℕ) (L : Lock) (recs : List Rec) (i : ℕ) (y : Reason) (r : Told) → ToldByValue s count L recs i r → r ≡ Given y
-    → Tidy (scriptsOf s) L (take count recs) → Unnamed s L (take count recs) y
+    → Tidy (scriptsOf s) L (take count recs) → Unnamed s L (take count recs) i y
