@@ -1,17 +1,19 @@
 // What the atomics share: their identities, their numbers, their refusals, and what each access means (specs/Access.antt).
+#![tactic(auto)]
+
 ghost use Rattle.std.specs.Prelude.{◌≡◌};
 ghost use Rattle.atomic.specs.Access.{number_of};
 
 // The identity of an atomic or a cell. It is a type of its own, so that no count is passed for it.
-#[derive(Drop)]
+#[derive(Clone, Copy)]
 pub struct CellId(pub u64);
 
 // What a 64-bit atomic counts. It is a type of its own, so that no identity is passed for it.
-#[derive(Drop)]
+#[derive(Clone, Copy)]
 pub struct Count(pub u64);
 
 // Why an access was not made.
-#[derive(Drop)]
+#[derive(Clone, Copy)]
 pub enum Refusal {
     // The identities of atomic and permission differ.
     Foreign,

@@ -1,4 +1,6 @@
 // The bool atomic. The identity is compared first, in one place, `access`; each operation then makes its one access.
+#![tactic(auto)]
+
 ghost use Rattle.std.specs.Prelude.{◌≡◌};
 ghost use Rattle.std.specs.Bool.{beq};
 ghost use Rattle.atomic.specs.Bits.{both, either, differ};
@@ -8,14 +10,14 @@ ghost use Rattle.atomic_bool.specs.Bool.{makes, on_bool, asks};
 use atomic::{CellId, Refusal};
 
 // The permission holds the value.
-#[derive(Drop)]
+#[derive(Clone, Copy)]
 pub struct Perm {
     pub id: CellId,
     pub value: bool,
 }
 
 // An operation with its operands.
-#[derive(Drop)]
+#[derive(Clone, Copy)]
 enum Op {
     Load,
     Store(bool),
@@ -26,7 +28,7 @@ enum Op {
     Xor(bool),
 }
 
-#[derive(Drop)]
+#[derive(Clone, Copy)]
 pub enum Answer {
     // The old value; of an exchange: it was done.
     Old(bool),
@@ -38,7 +40,7 @@ pub enum Answer {
 }
 
 // The permission as it is left, and the answer.
-#[derive(Drop)]
+#[derive(Clone, Copy)]
 pub struct Did {
     pub perm: Perm,
     pub answer: Answer,

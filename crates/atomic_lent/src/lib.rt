@@ -1,5 +1,6 @@
 // The operations of the atomics and of the value cell, with the permission lent by `&mut` and changed in place: thin functions over
 // those that take it by value and give it back. They have one shape, whatever the operands, and one proof, `proofs/Lent.antt`.
+#![tactic(auto)]
 
 pub mod of_bool;
 pub mod of_cell;

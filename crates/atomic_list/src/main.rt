@@ -3,6 +3,8 @@
 // oracle/atomic_list.rs makes the list: each row is one operation with its inputs, and with what
 // Rust's own atomics made of them. A line that cannot be read as a row counts as different, so that
 // nothing of the list is passed over, and the number of rows shows where some of it is missing.
+#![tactic(auto)]
+
 ghost use Rattle.std.specs.Prelude.{◌≡◌, true};
 
 use atomic::{CellId, Count};
@@ -69,7 +71,7 @@ fn report(reading: Reading, tally: Tally) {
 const NUMBERS: usize = 9;
 
 // What an operation is called on. An operand that it lacks is 0.
-#[derive(Drop)]
+#[derive(Clone, Copy)]
 struct Input {
     atomic: u64,
     permission: u64,
@@ -79,7 +81,7 @@ struct Input {
 }
 
 // What it comes to.
-#[derive(Drop)]
+#[derive(Clone, Copy)]
 struct Outcome {
     // The refusal's number, or 0.
     number: u64,
@@ -93,7 +95,7 @@ struct Outcome {
 }
 
 // What a replay saw. There is none where an input is too wide, or where the width lacks the operation.
-#[derive(Drop)]
+#[derive(Clone, Copy)]
 enum Replayed {
     Seen(Outcome),
     Broken,
@@ -287,7 +289,7 @@ fn outcome_u64(did: atomic_u64::Did) -> Outcome {
 // Replays an operation on the 8-bit atomic.
 
 // A number that the list gives for a byte.
-#[derive(Drop)]
+#[derive(Clone, Copy)]
 enum Narrowed {
     Is(atomic_u8::Count),
     Wide,
@@ -364,7 +366,7 @@ fn wide(n: atomic_u8::Count) -> u64 {
 // Replays an operation on the bool atomic, whose values the list writes as 0 and 1.
 
 // A bool has no sums, no nand and no maximum.
-#[derive(Drop)]
+#[derive(Clone, Copy)]
 enum Made {
     Is(atomic_bool::Did),
     Nothing,
@@ -424,7 +426,7 @@ fn from_bool(b: bool) -> u64 {
 
 // The operations by their names in the list.
 
-#[derive(Drop)]
+#[derive(Clone, Copy)]
 enum Operation {
     Load,
     Store,
@@ -442,7 +444,7 @@ enum Operation {
     FetchMax,
 }
 
-#[derive(Drop)]
+#[derive(Clone, Copy)]
 enum Named {
     Is(Operation),
     Unknown,

@@ -1,4 +1,6 @@
 // The 64-bit atomic. The identity is compared first, in one place, `access`; each operation then makes its one access.
+#![tactic(auto)]
+
 ghost use Rattle.std.specs.Prelude.{◌≡◌, nat_eq};
 ghost use Rattle.atomic.specs.Access.{load, store, swap, compare_exchange, compare_exchange_weak, fetch_add, fetch_sub, fetch_add_wrapping, fetch_sub_wrapping, fetch_and, fetch_or, fetch_xor, fetch_nand, fetch_max};
 ghost use Rattle.atomic_u64.specs.U64.{makes, on_u64, asks};
@@ -6,14 +8,14 @@ ghost use Rattle.atomic_u64.specs.U64.{makes, on_u64, asks};
 use atomic::{CellId, Count, Refusal};
 
 // The permission holds the value.
-#[derive(Drop)]
+#[derive(Clone, Copy)]
 pub struct Perm {
     pub id: CellId,
     pub value: Count,
 }
 
 // An operation with its operands.
-#[derive(Drop)]
+#[derive(Clone, Copy)]
 enum Op {
     Load,
     Store(Count),
@@ -30,7 +32,7 @@ enum Op {
     Max(Count),
 }
 
-#[derive(Drop)]
+#[derive(Clone, Copy)]
 pub enum Answer {
     // The old value; of an exchange: it was done.
     Old(Count),
@@ -42,7 +44,7 @@ pub enum Answer {
 }
 
 // The permission as it is left, and the answer.
-#[derive(Drop)]
+#[derive(Clone, Copy)]
 pub struct Did {
     pub perm: Perm,
     pub answer: Answer,

@@ -1,4 +1,6 @@
 // The 8-bit atomic. The identity is compared first, in one place, `access`; each operation then makes its one access.
+#![tactic(auto)]
+
 ghost use Rattle.std.specs.Prelude.{◌≡◌, nat_eq};
 ghost use Rattle.atomic.specs.Access.{load, store, swap, compare_exchange, compare_exchange_weak, fetch_add, fetch_sub, fetch_add_wrapping, fetch_sub_wrapping, fetch_and, fetch_or, fetch_xor, fetch_nand, fetch_max};
 ghost use Rattle.atomic_u8.specs.U8.{makes, on_u8, asks};
@@ -6,18 +8,18 @@ ghost use Rattle.atomic_u8.specs.U8.{makes, on_u8, asks};
 use atomic::{CellId, Refusal};
 
 // What the atomic holds. It is a type of its own, so that no identity is passed for it.
-#[derive(Drop)]
+#[derive(Clone, Copy)]
 pub struct Count(pub u8);
 
 // The permission holds the value.
-#[derive(Drop)]
+#[derive(Clone, Copy)]
 pub struct Perm {
     pub id: CellId,
     pub value: Count,
 }
 
 // An operation with its operands.
-#[derive(Drop)]
+#[derive(Clone, Copy)]
 enum Op {
     Load,
     Store(Count),
@@ -34,7 +36,7 @@ enum Op {
     Max(Count),
 }
 
-#[derive(Drop)]
+#[derive(Clone, Copy)]
 pub enum Answer {
     // The old value; of an exchange: it was done.
     Old(Count),
@@ -46,7 +48,7 @@ pub enum Answer {
 }
 
 // The permission as it is left, and the answer.
-#[derive(Drop)]
+#[derive(Clone, Copy)]
 pub struct Did {
     pub perm: Perm,
     pub answer: Answer,

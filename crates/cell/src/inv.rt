@@ -7,20 +7,20 @@ use super::pred::Pred;
 use super::{Answer, Refusal, pred};
 
 // The fields are private: outside this file an InvCell comes from `new`, `set` and `replace` alone.
-#[derive(Drop)]
+#[derive(Clone, Copy)]
 pub struct InvCell {
     pred: Pred,
     value: u64,
 }
 
-#[derive(Drop)]
+#[derive(Clone, Copy)]
 pub enum Made {
     Cell(InvCell),
     NotMade(Refusal),
 }
 
 // The cell as it is left, and the answer.
-#[derive(Drop)]
+#[derive(Clone, Copy)]
 pub struct Did {
     pub cell: InvCell,
     pub answer: Answer,

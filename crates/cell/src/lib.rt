@@ -1,4 +1,6 @@
 // The value cell, the predicates and the source's InvCell: modules two and three of the rules.
+#![tactic(auto)]
+
 ghost use Rattle.std.specs.Prelude.{◌≡◌};
 ghost use Rattle.cell.specs.Access.{number_of};
 
@@ -7,7 +9,7 @@ pub mod pred;
 pub mod value;
 
 // Why an operation was not done.
-#[derive(Drop)]
+#[derive(Clone, Copy)]
 pub enum Refusal {
     // The identities of cell and permission differ.
     Foreign,
@@ -19,7 +21,7 @@ pub enum Refusal {
     NotPermitted,
 }
 
-#[derive(Drop)]
+#[derive(Clone, Copy)]
 pub enum Answer {
     // The value taken or borrowed; of a replace: the one before.
     Value(u64),

@@ -3,7 +3,7 @@
 ghost use Rattle.std.specs.Prelude.{◌≡◌};
 ghost use Rattle.cell.specs.Pred.{permits, good, of_kind};
 
-#[derive(Drop)]
+#[derive(Clone, Copy)]
 pub enum Pred {
     // Every value.
     Any,
@@ -14,7 +14,7 @@ pub enum Pred {
 }
 
 // What a file's kind and two parameters name.
-#[derive(Drop)]
+#[derive(Clone, Copy)]
 pub enum Named {
     Known(Pred),
     // No kind has that number.

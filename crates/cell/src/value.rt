@@ -8,21 +8,21 @@ use super::{Answer, Refusal};
 use atomic::CellId;
 
 // An empty cell has no field for a number, so that none can keep one other than 0.
-#[derive(Drop)]
+#[derive(Clone, Copy)]
 pub enum Content {
     Empty,
     Full(u64),
 }
 
 // The permission holds the content.
-#[derive(Drop)]
+#[derive(Clone, Copy)]
 pub struct Perm {
     pub id: CellId,
     pub content: Content,
 }
 
 // An operation with its operand.
-#[derive(Drop)]
+#[derive(Clone, Copy)]
 enum Op {
     Put(u64),
     Take,
@@ -30,7 +30,7 @@ enum Op {
 }
 
 // The permission as it is left, and the answer.
-#[derive(Drop)]
+#[derive(Clone, Copy)]
 pub struct Did {
     pub perm: Perm,
     pub answer: Answer,

@@ -3,6 +3,8 @@
 // oracle/cell_list.rs makes the list and says what its columns are: each row is one call, with what Rust's own Option and Cell
 // made of it. The calls follow each other on one value cell and one InvCell. A line that cannot be read as a row counts as
 // different, so that nothing of the list is passed over, and the number of rows shows where some of it is missing.
+#![tactic(auto)]
+
 use atomic::CellId;
 use cell::inv::Made;
 use cell::pred::Named;
@@ -14,7 +16,7 @@ use replay::reading::Reading;
 use replay::tally::Tally;
 use replay::{numbers, reading, tally};
 
-#[derive(Drop)]
+#[derive(Clone, Copy)]
 struct State {
     cells: Cells,
     tally: Tally,
@@ -99,14 +101,14 @@ const INTO_INNER: u64 = 8;
 const PREDICATE: u64 = 9;
 
 // What the calls follow each other on.
-#[derive(Drop)]
+#[derive(Clone, Copy)]
 struct Cells {
     content: Content,
     made: Made,
 }
 
 // The call and its operands. One that the call has no use for is 0.
-#[derive(Drop)]
+#[derive(Clone, Copy)]
 struct Call {
     code: u64,
     a: u64,
@@ -116,7 +118,7 @@ struct Call {
 }
 
 // What a call comes to, in the columns of the list.
-#[derive(Drop)]
+#[derive(Clone, Copy)]
 struct Told {
     number: u64,
     got: u64,
@@ -124,14 +126,14 @@ struct Told {
     kept: u64,
 }
 
-#[derive(Drop)]
+#[derive(Clone, Copy)]
 struct Replayed {
     cells: Cells,
     is_equal: bool,
 }
 
 // What a replay saw. There is none where the row is no call, or where there is no InvCell to call.
-#[derive(Drop)]
+#[derive(Clone, Copy)]
 enum Seen {
     Told(Cells, Told),
     Nothing,

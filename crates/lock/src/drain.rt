@@ -13,7 +13,7 @@ use lock_words::names::{ACQUIRE_READ, ACQUIRE_WRITE, NONE, RELEASE_WRITE, UNTIDY
 use machine::{Lock, Place, Rec, Refusal};
 
 // What a drain returns: the refusal, whose number is 0 for none; how many entries it made; the lock and the records as they are left.
-#[derive(Drop)]
+#[derive(Clone, Copy)]
 pub struct DrainReturn {
     pub refusal: Refusal,
     pub n: u64,
@@ -22,7 +22,7 @@ pub struct DrainReturn {
 }
 
 // Where a thread stops: at Idle or at WriteWait, at Idle, at its script's end.
-#[derive(Drop)]
+#[derive(Clone, Copy)]
 pub enum Stop {
     IdleOrWait,
     Idle,
@@ -30,7 +30,7 @@ pub enum Stop {
 }
 
 // A drain under way: the state, how many records are not Idle, and how many entries were made.
-#[derive(Drop)]
+#[derive(Clone, Copy)]
 struct Going {
     lock: Lock,
     recs: [Rec; 16],

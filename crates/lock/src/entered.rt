@@ -9,7 +9,7 @@ use super::entry;
 use lock_words::names::{NO_ACCESS, NONE, SCRIPT_FINISHED};
 use machine::{Did, Lock, Out, Place, Rec, Row};
 
-#[derive(Drop)]
+#[derive(Clone, Copy)]
 pub(crate) struct Entered {
     pub(crate) lock: Lock,
     pub(crate) rec: Rec,

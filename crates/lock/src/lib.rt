@@ -1,4 +1,6 @@
 // The lock as code: each function is proved equal to its definition in `machine`.
+#![tactic(auto)]
+
 pub mod drain;
 mod entered;
 mod entry;

@@ -12,7 +12,7 @@ use machine::{Lock, ROW_WORDS, Rec, Refusal};
 
 // What a run returns: the refusal, whose number is 0 for none; n; the number of rows with answer 0; the lock and the records as they
 // are left.
-#[derive(Drop)]
+#[derive(Clone, Copy)]
 pub struct RunReturn {
     pub refusal: Refusal,
     pub n: u64,

@@ -15,7 +15,7 @@ use lock_words::names::{
 use machine::{Place, Rec, Refusal, Start};
 
 // What setup answers, and the records as it leaves them.
-#[derive(Drop)]
+#[derive(Clone, Copy)]
 pub struct Begun {
     pub start: Start,
     pub recs: [Rec; 16],

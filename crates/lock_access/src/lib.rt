@@ -1,5 +1,7 @@
 // The accesses of the lock: each is one call of an atomic or of the value cell, said in numbers. The lock keeps the values alone; a
 // permission is made of one here, with the identity that the call names, so that nothing above sees an identity.
+#![tactic(auto)]
+
 ghost use Rattle.std.specs.Prelude.{◌-◌, ◌≡◌, true, false, not, cond, eqb, leb};
 ghost use Rattle.cell.specs.Value.{kept, put};
 ghost use Rattle.lock_access.specs.Access.{on_count, on_flag, on_cell, count_told, flag_told, cell_told};
@@ -16,7 +18,7 @@ const FLAG: CellId = CellId(2);
 const CELL: CellId = CellId(3);
 
 // Whether an access of the count was done, the count that it found, and the one that it left.
-#[derive(Drop)]
+#[derive(Clone, Copy)]
 pub struct OnCount {
     pub done: bool,
     pub old: Count,
@@ -24,7 +26,7 @@ pub struct OnCount {
 }
 
 // The same of the flag; a store does not tell what it found, which is false here.
-#[derive(Drop)]
+#[derive(Clone, Copy)]
 pub struct OnFlag {
     pub done: bool,
     pub old: bool,
@@ -32,7 +34,7 @@ pub struct OnFlag {
 }
 
 // What the cell gave, 0 if nothing, and what is left in it.
-#[derive(Drop)]
+#[derive(Clone, Copy)]
 pub struct OnCell {
     pub got: u64,
     pub left: Content,

@@ -1,5 +1,7 @@
 // Runs the cycle of case L again and again and prints how many entries there were and how many of them were accepted: a program to
 // measure. Each byte on standard input is one round, a run of 4,000 entries with a row for each.
+#![tactic(auto)]
+
 use atomic::Count;
 use cell::pred::Pred;
 use cell::value::Content;
@@ -22,7 +24,7 @@ const ENTRIES: usize = 4000;
 
 const WORDS: usize = 24000;
 
-#[derive(Drop)]
+#[derive(Clone, Copy)]
 struct State {
     lock: Lock,
     recs: [Rec; 16],

@@ -1,6 +1,8 @@
 // Case L over a lent list of records: set up, run in two pieces into one trace list, and drained; then the entries of that drain, and a
 // run of them. Prints the words of each row, the two words of the trace list that no row takes, what each piece returned, what the drain
 // returned, how many its entries are and may be, the list that they are in, and what their run returned.
+#![tactic(auto)]
+
 use atomic::Count;
 use cell::pred::Pred;
 use libc::STDOUT_FILENO;

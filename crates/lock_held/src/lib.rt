@@ -1,5 +1,7 @@
 // The lent forms of `lock_lent` for callers that hold the records by value, with the contracts of `lock`: the records are the first
 // `count` of an array of sixteen, which are lent. There is no list of more than sixteen to lend; then `lock` refuses the call.
+#![tactic(auto)]
+
 ghost use Rattle.std.specs.Prelude.{◌≡◌};
 ghost use Rattle.machine.specs.Lists.{lists};
 ghost use Rattle.lock.specs.ByValue.{run_of, drain_of};

@@ -10,7 +10,7 @@ use super::exchange;
 use machine::{Lock, Rec, Refusal};
 
 // What a drain returns: the refusal, whose number is 0 for none; how many entries it made; the lock as it is left.
-#[derive(Drop)]
+#[derive(Clone, Copy)]
 pub struct LentDrainReturn {
     pub refusal: Refusal,
     pub n: u64,
@@ -18,7 +18,7 @@ pub struct LentDrainReturn {
 }
 
 // A drain's answer with the records by value.
-#[derive(Drop)]
+#[derive(Clone, Copy)]
 pub struct DrainedWith {
     pub drained: LentDrainReturn,
     pub recs: [Rec; 16],

@@ -11,7 +11,7 @@ use super::exchange;
 use machine::{Lock, Rec, Refusal};
 
 // What a run returns: the refusal, whose number is 0 for none; n; the number of rows with answer 0; the lock as it is left.
-#[derive(Drop)]
+#[derive(Clone, Copy)]
 pub struct LentRunReturn {
     pub refusal: Refusal,
     pub n: u64,
@@ -20,7 +20,7 @@ pub struct LentRunReturn {
 }
 
 // A run's answer with the records by value.
-#[derive(Drop)]
+#[derive(Clone, Copy)]
 pub struct RanWith {
     pub ran: LentRunReturn,
     pub recs: [Rec; 16],

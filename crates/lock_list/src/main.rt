@@ -4,6 +4,8 @@
 // oracle/lock.rs makes the list and says what its fields are: each line is one call with all that is lent and all that comes back. The
 // last lines are wrong on purpose, and each of them has to be found. Nothing of the list is passed over: a line that cannot be read, and
 // a state that the types do not have, are counted too.
+#![tactic(auto)]
+
 use atomic::Count;
 use cell::pred::{Named, Pred};
 use cell::value::Content;
@@ -90,7 +92,7 @@ const ROOM: usize = 2600;
 const TRACE: usize = 128;
 
 // What a call comes to. Where a setup is refused there is no lock, and the one here does not count.
-#[derive(Drop)]
+#[derive(Clone, Copy)]
 struct Told {
     is_made: bool,
     refusal: Refusal,
@@ -413,7 +415,7 @@ const LAST_PLACE: u64 = 8;
 const MOST: usize = 16;
 
 // What a call is given besides the lists. A setup's first value is what the cell holds.
-#[derive(Drop)]
+#[derive(Clone, Copy)]
 struct Given {
     call: u64,
     lock: Lock,
@@ -423,7 +425,7 @@ struct Given {
 }
 
 // The lock before a call.
-#[derive(Drop)]
+#[derive(Clone, Copy)]
 enum Before {
     Is(Lock),
     // An empty cell that keeps a number: the type has none, and the list has 10 for it.
@@ -654,7 +656,7 @@ const RECORD: usize = 4;
 const ANSWER: usize = 5;
 
 // Where each part starts, and where the last one ends. Each ends where the next one starts.
-#[derive(Drop)]
+#[derive(Clone, Copy)]
 struct Parts {
     lock: usize,
     recs: usize,

@@ -1,4 +1,6 @@
 // The entries of the drain order, written into a lent list; lock and records are not changed.
+#![tactic(auto)]
+
 ghost use Rattle.std.specs.Prelude.{◌+◌, ◌<◌, ◌≤◌, ◌^◌, ◌≡◌, length, take};
 ghost use Rattle.std.proofs.lemmas.List.Edits.{sets};
 ghost use Rattle.machine.specs.Lists.{lists, scripts_of};
@@ -20,7 +22,7 @@ const ROW: usize = 6;
 
 // The refusal, whose number is 0 for none; how many entries were written; how many they are at most by the rules: the plain cost of the
 // state given and three a thread.
-#[derive(Drop)]
+#[derive(Clone, Copy)]
 pub struct Answer {
     pub refusal: Refusal,
     pub n: u64,
@@ -28,7 +30,7 @@ pub struct Answer {
 }
 
 // Entries under way: the state after them, and how many were written.
-#[derive(Drop)]
+#[derive(Clone, Copy)]
 struct Going {
     lock: Lock,
     recs: [Rec; 16],

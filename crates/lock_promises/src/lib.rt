@@ -1,1 +1,2 @@
 // What is promised of the functions' results: statements and proofs, no code.
+#![tactic(auto)]

@@ -1,4 +1,6 @@
 // The scripts as they are read out of the lists that are lent, and the checks of these lists: refusals 5, 6 and 7.
+#![tactic(auto)]
+
 ghost use Rattle.std.specs.Prelude.{◌≡◌, [], ◌∷◌, ◌+◌, ◌<◌, ◌^◌, min, eqb, get_or};
 ghost use Rattle.machine.specs.Refusals.{lowest};
 ghost use Rattle.machine.specs.Lists.{lists, total, start, wrong, long_thread, list_checks, beside};

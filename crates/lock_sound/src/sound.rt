@@ -11,7 +11,7 @@ use lock_words::names::{INTO_INNER, MOST_THREADS};
 use machine::{Lock, Place, Rec};
 
 // How many records stand at each place, are not Idle, or are inside operation 7.
-#[derive(Drop)]
+#[derive(Clone, Copy)]
 struct Counted {
     check: u64,
     back: u64,

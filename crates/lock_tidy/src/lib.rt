@@ -1,4 +1,6 @@
 // The test of tidiness: the lock is clean, and the rest of every script is made of whole sections that release permitted values.
+#![tactic(auto)]
+
 ghost use Rattle.std.specs.Prelude.{◌≡◌, ◌-◌, ◌≤◌, take};
 ghost use Rattle.machine.specs.Lists.{lists, scripts_of};
 ghost use Rattle.machine.specs.Sound.{every};
@@ -13,7 +15,7 @@ use lock_words::names::{
 use machine::{Lock, Place, Rec};
 
 // What a thread holds between two operations.
-#[derive(Drop)]
+#[derive(Clone, Copy)]
 enum Held {
     Nothing,
     Read,

@@ -1,5 +1,7 @@
 // The small words that the code is written in, as machine's specs/Words has them: truth, places, movers and cells as numbers, and a
 // record or a lock made or changed. These are made and changed here and nowhere else, so that no other function names all their fields.
+#![tactic(auto)]
+
 ghost use Rattle.std.specs.Prelude.{◌≡◌, ◌+◌, ◌≤◌, min, eqb};
 ghost use Rattle.cell.specs.Value.{is_full};
 ghost use Rattle.machine.specs.Words.{bit, place_no, is, moving, may_go, begun, rec_at, plain, goes, unused, with_exc, with_rc, with_cell, with_mover, with_reads, with_writes, with_end};

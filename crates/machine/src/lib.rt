@@ -1,11 +1,13 @@
 // The declared types of the lock machine: places, records, the lock, rows, and what is answered. What a step, a setup, a run and a
 // drain mean stands in specs/.
+#![tactic(auto)]
+
 use atomic::Count;
 use cell::pred::Pred;
 use cell::value::Content;
 
 // Where a thread stands inside its present operation.
-#[derive(Drop)]
+#[derive(Clone, Copy)]
 pub enum Place {
     Idle,
     ReadTry,
@@ -19,7 +21,7 @@ pub enum Place {
 }
 
 // A thread's record.
-#[derive(Drop)]
+#[derive(Clone, Copy)]
 pub struct Rec {
     // The script place: how many operations of the script are done.
     pub at: u64,
@@ -31,13 +33,13 @@ pub struct Rec {
 }
 
 // The thread that has begun into_inner.
-#[derive(Drop)]
+#[derive(Clone, Copy)]
 pub enum Mover {
     Nobody,
     By(u64),
 }
 
-#[derive(Drop)]
+#[derive(Clone, Copy)]
 pub struct Lock {
     // The flag.
     pub exc: bool,
@@ -57,7 +59,7 @@ pub struct Lock {
 }
 
 // What an accepted step leaves: the lock and the thread's own record, with the access made and the value got.
-#[derive(Drop)]
+#[derive(Clone, Copy)]
 pub struct Did {
     pub lock: Lock,
     pub rec: Rec,
@@ -66,7 +68,7 @@ pub struct Did {
 }
 
 // What is answered to an entry of the schedule.
-#[derive(Drop)]
+#[derive(Clone, Copy)]
 pub enum Out {
     // A refusal by its number.
     No(u64),
@@ -77,7 +79,7 @@ pub enum Out {
 pub const ROW_WORDS: usize = 6;
 
 // A row of the trace.
-#[derive(Drop)]
+#[derive(Clone, Copy)]
 pub struct Row {
     pub thread: u64,
     pub access: u64,
@@ -88,7 +90,7 @@ pub struct Row {
 }
 
 // A refusal of setup, run or drain: its number, 0 for none, and the thread and the script place beside it.
-#[derive(Drop)]
+#[derive(Clone, Copy)]
 pub struct Refusal {
     pub number: u64,
     pub thread: u64,
@@ -96,7 +98,7 @@ pub struct Refusal {
 }
 
 // What setup answers.
-#[derive(Drop)]
+#[derive(Clone, Copy)]
 pub enum Start {
     Made(Lock),
     Refused(Refusal),

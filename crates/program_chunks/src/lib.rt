@@ -1,8 +1,10 @@
 // What the programs that read their input a chunk at a time share: where the input stands, and the front of a list.
+#![tactic(auto)]
+
 ghost use Rattle.std.specs.Prelude.{min, ◌≡◌, length, take};
 ghost use Rattle.program_chunks.specs.Chunks.{unread, stays, ended_by, read_of, taken_to};
 
-#[derive(Drop)]
+#[derive(Clone, Copy)]
 pub struct Input {
     // How many bytes the chunk has, and how many of them were taken.
     pub len: usize,

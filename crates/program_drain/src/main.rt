@@ -1,6 +1,8 @@
 // A scenario on standard input, and the same on standard output, with a run line behind it for each entry of the drain order: whoever runs that has
 // the trace, and then the drain. How many entries they are and how many they may be is said on standard error, or the refusal of drain. Of a scenario
 // that is refused nothing is said here: whoever runs it finds that.
+#![tactic(auto)]
+
 ghost use Rattle.std.specs.Prelude.{◌≤◌, ◌≡◌, length};
 
 use libc::{STDERR_FILENO, STDOUT_FILENO};
@@ -13,7 +15,7 @@ use scenario_read::Stop;
 const FULL: usize = 50000;
 
 // What is handed from turn to turn, besides the lists.
-#[derive(Drop)]
+#[derive(Clone, Copy)]
 struct Run {
     intake: Intake,
     // The chunk in hand begins within a line.

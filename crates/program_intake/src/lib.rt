@@ -1,4 +1,6 @@
 // What the programs share that read a scenario: standard input, a chunk at a time, and the rows that come of it.
+#![tactic(auto)]
+
 ghost use Rattle.std.specs.Prelude.{◌≤◌, ◌≡◌, ◌||◌, length};
 ghost use Rattle.program_chunks.specs.Chunks.{stays};
 ghost use Rattle.scenario_read.specs.Code.{fed_of};
@@ -12,7 +14,7 @@ use scenario_pieces::Standing;
 use scenario_read::{Fed, State, Stop};
 
 // What is handed from turn to turn besides the lists.
-#[derive(Drop)]
+#[derive(Clone, Copy)]
 pub struct Intake {
     pub state: State,
     pub standing: Standing,
@@ -22,7 +24,7 @@ pub struct Intake {
 }
 
 // What a turn leaves, how many words of rows came, and why no more of them.
-#[derive(Drop)]
+#[derive(Clone, Copy)]
 pub struct Came {
     pub intake: Intake,
     pub at: usize,

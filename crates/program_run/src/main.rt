@@ -1,4 +1,6 @@
 // A scenario on standard input, its trace on standard output. A refusal is said on standard error too, with what is known of its line, in numbers.
+#![tactic(auto)]
+
 ghost use Rattle.std.specs.Prelude.{◌≡◌, ◌+◌, ◌*◌, ◌/◌, ◌≤◌, length, if◌then◌else◌, nat_le};
 ghost use Rattle.std.proofs.lemmas.List.Edits.{sets};
 ghost use Rattle.scenario_prints.specs.Prints.{more_text};
@@ -11,7 +13,7 @@ use scenario_read::Stop;
 use scenario_stages::Read;
 
 // What is handed from turn to turn, besides the lists.
-#[derive(Drop)]
+#[derive(Clone, Copy)]
 struct Run {
     intake: Intake,
     // The number of the next row, modulo 2^64.
@@ -23,7 +25,7 @@ struct Run {
 }
 
 // How many bytes of text wait, once there is room for more.
-#[derive(Drop)]
+#[derive(Clone, Copy)]
 struct Room {
     at: usize,
     // Some could not be written.

@@ -1,4 +1,6 @@
 // What a program tells of a line that is refused, in numbers: how far the scenario was read, how long the line is, and its bytes.
+#![tactic(auto)]
+
 ghost use Rattle.std.specs.Prelude.{◌≡◌, ◌+◌, ◌*◌, ◌≤◌, min, [], ◌∷◌, ◌++◌, length, drop};
 ghost use Rattle.scenario_lines.specs.Ascii.{bytes as ascii};
 ghost use Rattle.scenario_text.specs.Put.{Put, place_after, stored};

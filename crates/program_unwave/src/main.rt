@@ -1,5 +1,7 @@
 // A waveform on standard input, its signals on standard output: a line for time 0 and one for each row. Or the one line of its refusal: 42 where
 // it is not the waveform of any signals, 41 where it has more than 262,144 bytes or more than 16,383 rows.
+#![tactic(auto)]
+
 ghost use Rattle.std.specs.Prelude.{◌≡◌, length};
 
 use libc::{STDERR_FILENO, STDIN_FILENO, STDOUT_FILENO};
@@ -10,7 +12,7 @@ use vcd_code::NO_ROOM;
 const FULL: usize = 50000;
 
 // What was read: so many bytes; whether reading failed; whether more came than there is room for.
-#[derive(Drop)]
+#[derive(Clone, Copy)]
 struct Got {
     n: usize,
     failed: bool,

@@ -1,5 +1,7 @@
 // A scenario on standard input, the waveform of its trace on standard output. The refusal of a scenario is said on standard error, behind the
 // waveform of the rows before it, with what is known of its line, in numbers.
+#![tactic(auto)]
+
 ghost use Rattle.std.specs.Prelude.{◌+◌, ◌*◌, ◌/◌, ◌≤◌, ◌≡◌, cond, leb, length};
 ghost use Rattle.std.proofs.lemmas.List.Edits.{sets};
 ghost use Rattle.vcd.specs.Trace.{row_signals};
@@ -15,7 +17,7 @@ use vcd::{Signals, Wave};
 use vcd_rows::Left;
 
 // What is handed from turn to turn, besides the lists.
-#[derive(Drop)]
+#[derive(Clone, Copy)]
 struct Run {
     intake: Intake,
     wave: Wave,
@@ -26,7 +28,7 @@ struct Run {
 }
 
 // How many bytes of the waveform wait, once there is room for more.
-#[derive(Drop)]
+#[derive(Clone, Copy)]
 struct Room {
     at: usize,
     // Some could not be written.

@@ -1,5 +1,7 @@
 // A scenario on standard input, and on standard output, once it has been run, why each thread waits, a line for each; or its refusal alone, which is
 // said on standard error too. What is wrong with a refused line is not said here: a run of the scenario tells it.
+#![tactic(auto)]
+
 ghost use Rattle.std.specs.Prelude.{◌≤◌, ◌≡◌, length};
 ghost use Rattle.std.proofs.lemmas.List.Edits.{sets};
 ghost use Rattle.program_why.specs.Answered.{answered};
@@ -9,7 +11,7 @@ use program_intake::{Came, Intake};
 use scenario_read::Stop;
 
 // What is handed from turn to turn, besides the lists.
-#[derive(Drop)]
+#[derive(Clone, Copy)]
 struct Run {
     intake: Intake,
     // All is written, or no more can be.

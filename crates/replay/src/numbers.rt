@@ -10,7 +10,7 @@ use scenario_lines::number::parse_number;
 const WRONG: u64 = 999;
 
 // What became of what a line holds: how many of them there are.
-#[derive(Drop)]
+#[derive(Clone, Copy)]
 pub enum Stored {
     // One of them cannot be read, or has no room.
     Broken,

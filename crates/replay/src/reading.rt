@@ -4,7 +4,7 @@ ghost use Rattle.replay.specs.Reading.{before_reading, used_up, after_read, open
 
 const BREAK: u8 = b'\n';
 
-#[derive(Drop)]
+#[derive(Clone, Copy)]
 pub struct Reading {
     // How many bytes the chunk has, and how many of them were taken.
     pub len: usize,
@@ -18,7 +18,7 @@ pub struct Reading {
 }
 
 // What was taken of a chunk.
-#[derive(Drop)]
+#[derive(Clone, Copy)]
 struct TakenSome {
     held: usize,
     at: usize,

@@ -7,7 +7,7 @@ use libc::STDOUT_FILENO;
 // How many lines that differ are named.
 const NAMED: u64 = 5;
 
-#[derive(Drop)]
+#[derive(Clone, Copy)]
 pub struct Tally {
     // The number of the line that is being read, from 1.
     pub line: u64,
@@ -22,7 +22,7 @@ pub struct Tally {
 }
 
 // What a line comes to.
-#[derive(Drop)]
+#[derive(Clone, Copy)]
 pub enum Verdict {
     Agrees,
     Differs,

@@ -1,4 +1,6 @@
 // The rows of a trace counted by thread: how often its exchange on the count failed, and how often it changed the count.
+#![tactic(auto)]
+
 ghost use Rattle.std.specs.Prelude.{◌≡◌, ◌+◌, ◌*◌, ◌≤◌, ◌||◌, length, ◌==◌};
 ghost use Rattle.machine.specs.Names.{gives_back, releases_rc};
 ghost use Rattle.machine.specs.Run.{row_at, rows_of_words};

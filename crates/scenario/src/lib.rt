@@ -1,5 +1,7 @@
 // The stage of a scenario file: which lines may come next. What is read and what is printed stands in specs/.
-#[derive(Drop)]
+#![tactic(auto)]
+
+#[derive(Clone, Copy)]
 pub enum Stage {
     Header,
     Lock,

@@ -13,7 +13,7 @@ const CR: u8 = 13;
 
 const LF: u8 = 10;
 
-#[derive(Drop)]
+#[derive(Clone, Copy)]
 pub struct Held {
     // How many places of the line are taken; 81 stands for a line that is too long.
     pub len: usize,
@@ -23,7 +23,7 @@ pub struct Held {
     pub done: bool,
 }
 
-#[derive(Drop)]
+#[derive(Clone, Copy)]
 pub struct Taken {
     pub held: Held,
     // The place in the chunk after the last byte read.

@@ -1,4 +1,6 @@
 // The lines of a scenario file: where a line ends, read a byte at a time, and what one line says.
+#![tactic(auto)]
+
 pub mod bytes;
 pub mod judge;
 pub mod number;
@@ -7,14 +9,14 @@ pub mod number;
 pub const LONGEST: usize = 80;
 
 // What digits say.
-#[derive(Drop)]
+#[derive(Clone, Copy)]
 pub enum Parsed {
     No,
     Is(u64),
 }
 
 // What one line says.
-#[derive(Drop)]
+#[derive(Clone, Copy)]
 pub enum Line {
     // Too long, with a quote, a CR or an LF in it, or not four fields.
     Broken,

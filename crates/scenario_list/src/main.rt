@@ -3,6 +3,8 @@
 // oracle/scenarios.rs makes the list and says how it is written: each line is a scenario file with what the second program prints for it.
 // A line that cannot be read as such counts as different, so that nothing of the list is passed over, and the number of rows shows where
 // some of it is missing.
+#![tactic(auto)]
+
 ghost use Rattle.std.specs.Prelude.{◌<◌, ◌≤◌};
 
 use cell::pred::Pred;
@@ -103,7 +105,7 @@ fn width_of(b: u8) -> usize
     if b == b'\\' { ESCAPED } else { 1 }
 }
 
-#[derive(Drop)]
+#[derive(Clone, Copy)]
 enum Byte {
     Is(u8),
     Broken,

@@ -1,4 +1,6 @@
 // A piece of a schedule: its entries are run and their rows stored, with the standing that is handed from piece to piece.
+#![tactic(auto)]
+
 ghost use Rattle.std.specs.Prelude.{◌+◌, ◌*◌, ◌≤◌, ◌≡◌, length};
 ghost use Rattle.machine.specs.Lists.{lists};
 ghost use Rattle.scenario_pieces.specs.Piece.{piece, first_of, left_of, stored_of, ran_left, ran_stored};
@@ -12,14 +14,14 @@ use machine::{Lock, Place, ROW_WORDS, Rec};
 pub const ENTRIES: u64 = 64;
 
 // The lock and the records as the pieces so far have left them.
-#[derive(Drop)]
+#[derive(Clone, Copy)]
 pub struct Standing {
     pub lock: Lock,
     pub recs: [Rec; 16],
 }
 
 // The standing after a piece, and the place after its rows.
-#[derive(Drop)]
+#[derive(Clone, Copy)]
 pub struct Left {
     pub standing: Standing,
     pub at: usize,

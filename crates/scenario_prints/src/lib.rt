@@ -1,4 +1,6 @@
 // Rows as text: rows in, as words, the lines of a printed trace out, and behind the last of them the refusal.
+#![tactic(auto)]
+
 ghost use Rattle.std.specs.Prelude.{◌≡◌, ◌+◌, ◌*◌, ◌≤◌, length, nat_le};
 ghost use Rattle.scenario_text.specs.Put.{Put, place_after, stored};
 ghost use Rattle.lock_promises.specs.Reached.{rows_in};

@@ -1,1 +1,2 @@
 // What the calls of `feed` print, one after another: no code, only statements and their proofs.
+#![tactic(auto)]

@@ -1,4 +1,6 @@
 // Scenario bytes in, rows out: a chunk at a time, one move after another, with what is read and run so far handed from call to call.
+#![tactic(auto)]
+
 mod peek;
 mod run_lines;
 
@@ -22,7 +24,7 @@ use scenario_stages::Read;
 const PIECE: usize = 384;
 
 // What is handed from call to call besides the lists and the standing.
-#[derive(Drop)]
+#[derive(Clone, Copy)]
 pub struct State {
     // The line so far.
     pub held: Held,
@@ -37,7 +39,7 @@ pub struct State {
 }
 
 // What comes next.
-#[derive(Drop)]
+#[derive(Clone, Copy)]
 pub enum Move {
     Stand,
     Piece,
@@ -48,7 +50,7 @@ pub enum Move {
 }
 
 // Why a call came to rest.
-#[derive(Drop)]
+#[derive(Clone, Copy)]
 pub enum Stop {
     // The chunk is all taken, and another is wanted.
     Wants,
@@ -61,7 +63,7 @@ pub enum Stop {
 }
 
 // What a call returns: the state, the standing, and the places in the chunk and in the list for rows after what was taken and stored.
-#[derive(Drop)]
+#[derive(Clone, Copy)]
 pub struct Fed {
     pub state: State,
     pub standing: Standing,
@@ -70,7 +72,7 @@ pub struct Fed {
 }
 
 // What a move other than those of the lock leaves.
-#[derive(Drop)]
+#[derive(Clone, Copy)]
 struct Moved {
     state: State,
     from: usize,

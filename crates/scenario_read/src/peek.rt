@@ -11,7 +11,7 @@ const TENTH: u64 = 6554;
 const LONGEST_START: usize = 78;
 
 // The thread, how often, and the place after the line; 0 times: there is no such line here.
-#[derive(Drop)]
+#[derive(Clone, Copy)]
 pub(crate) struct Peeked {
     pub(crate) thread: u64,
     pub(crate) times: u64,
@@ -19,7 +19,7 @@ pub(crate) struct Peeked {
 }
 
 // A number, and the place after it; TIMES: there is none.
-#[derive(Drop)]
+#[derive(Clone, Copy)]
 struct Number {
     value: u64,
     at: usize,

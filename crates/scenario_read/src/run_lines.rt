@@ -14,7 +14,7 @@ use scenario_lines::bytes::Held;
 use scenario_pieces::ENTRIES;
 
 // The turns that are left, how many lines were read, the thread of the last of them, how many entries wait, and the place in the chunk.
-#[derive(Drop)]
+#[derive(Clone, Copy)]
 struct Runs {
     turns: u64,
     line: u64,
@@ -24,7 +24,7 @@ struct Runs {
 }
 
 // What run lines that are read ahead leave of a state, with the place in the chunk after them and the turns that are left.
-#[derive(Drop)]
+#[derive(Clone, Copy)]
 pub(crate) struct RunsTaken {
     pub(crate) state: State,
     pub(crate) from: usize,

@@ -1,4 +1,6 @@
 // A scenario file's lines, taken one by one into what is read so far: its refusal, or what it adds.
+#![tactic(auto)]
+
 ghost use Rattle.std.specs.Prelude.{◌≡◌, ◌≤◌, [], length, take, replicate, if◌then◌else◌, nat_lt, slice_set};
 ghost use Rattle.scenario_lines.specs.declared.Line.TheVariants.{Header, BadNumber, Lock, Pred as PredLine, Op, Run};
 ghost use Rattle.machine.specs.Lists.{lists};
@@ -26,7 +28,7 @@ const BROKEN_LINE: u64 = 31;
 const WRONG_LINE: u64 = 32;
 
 // What is read so far, besides the lists of operations.
-#[derive(Drop)]
+#[derive(Clone, Copy)]
 pub struct Read {
     // How many lines were read, modulo 2^64.
     pub line: u64,

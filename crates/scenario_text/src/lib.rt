@@ -1,6 +1,8 @@
 // What is printed, as text in a lent list: numbers, rows, the header and a refusal. Each `put` function stores its text from a place on and
 // returns the place after it. Where the longest such text has no room, nothing is stored and the place given is returned; no text but that of no
 // bytes is empty, so the caller can tell.
+#![tactic(auto)]
+
 ghost use Rattle.std.specs.Prelude.{◌+◌, ◌*◌, ◌≤◌, ◌<◌, ◌≡◌, ◌++◌, [], ◌∷◌, leb, length};
 ghost use Rattle.std.proofs.lemmas.List.Edits.{sets};
 ghost use Rattle.scenario_text.specs.Number.{text};

@@ -2,6 +2,8 @@
 //
 // oracle/vcd.rs makes the list and says what its fields are: each line is one call with all that is lent and all that comes back. The last
 // lines are wrong on purpose, and each of them has to be found. A line that cannot be read is counted too.
+#![tactic(auto)]
+
 ghost use Rattle.std.specs.Prelude.{◌≤◌};
 
 use libc::STDIN_FILENO;

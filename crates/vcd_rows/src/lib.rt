@@ -1,4 +1,6 @@
 // The waveform of rows: rows in, as words, the lines of what changed out.
+#![tactic(auto)]
+
 ghost use Rattle.std.specs.Prelude.{◌+◌, ◌*◌, ◌≤◌, ◌≡◌, leb, length};
 ghost use Rattle.scenario_text.specs.Put.{Put};
 ghost use Rattle.vcd.specs.Trace.{row_signals};
@@ -9,7 +11,7 @@ use vcd::{Signals, Wave};
 use vcd_text::CHANGE;
 
 // Where the waveform stands after rows, and the place after what they changed.
-#[derive(Drop)]
+#[derive(Clone, Copy)]
 pub struct Left {
     pub wave: Wave,
     pub at: usize,

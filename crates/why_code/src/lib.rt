@@ -1,5 +1,7 @@
 // Why a thread is waiting: its next step is tried on a copy, and where that step is a failed look or exchange, the state says what stands in
 // its way.
+#![tactic(auto)]
+
 ghost use Rattle.std.specs.Prelude.{◌≡◌, ◌||◌, ◌&&◌, not, eqb, take};
 ghost use Rattle.machine.specs.Lists.{lists};
 ghost use Rattle.why.specs.Why.{sees_full, loses_count, meets_flag, meets_readers, has_flag, is_counted, first_of, blocker_of, reason_of, by_blocker, record_in, reason_no, who_no};
@@ -14,7 +16,7 @@ use machine::{Lock, Place, Rec, Refusal};
 use why::{Blocker, Numbers, Reason, Told};
 
 // Whom a thread waits for.
-#[derive(Drop)]
+#[derive(Clone, Copy)]
 enum Whom {
     FlagHolder,
     Reader,

@@ -1,5 +1,7 @@
 // Why a thread is waiting, asked over a lent list of records: the records are read out of the list, and the question is asked of them by
 // value.
+#![tactic(auto)]
+
 ghost use Rattle.std.specs.Prelude.{◌≡◌};
 ghost use Rattle.machine.specs.Lists.{lists};
 ghost use Rattle.lock_lent.specs.Taken.{taken};

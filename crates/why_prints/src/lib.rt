@@ -1,4 +1,6 @@
 // The answers why threads wait, as text: where a scenario has been read and run to its end, the header and a line for each thread, or the refusal.
+#![tactic(auto)]
+
 ghost use Rattle.std.specs.Prelude.{◌+◌, ◌≤◌, ◌≡◌, length};
 ghost use Rattle.machine.specs.Lists.{lists};
 ghost use Rattle.scenario_text.specs.Put.{Put, place_after, stored};

@@ -1,1 +1,2 @@
 // What is promised of the answers why a thread waits: statements and proofs, no code.
+#![tactic(auto)]
