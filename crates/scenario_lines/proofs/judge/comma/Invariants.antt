@@ -1,0 +1,12 @@
+-- `comma` meets its contract. The loop's invariant: the definition of the whole is that of the rest, from here on. The measure is what is left. Assumes nothing.
+use Prim.Native.Nat.{◌≤◌, ◌-◌, ◌+◌}
+use mathlib.Core.Path.{◌≡◌}
+use lib.ListN.{length, drop}
+use Rattle.scenario_lines.specs.Judge.{comma_at}
+use Rattle.scenario_lines.proofs.judge.comma.Given as goal
+
+abbrev pub invariant-loop-i : goal.invariant-loop-i
+invariant-loop-i l = (l.i ≤ length l.s) × (comma_at l.s ≡ l.i + comma_at (drop l.i l.s))
+
+abbrev pub decreases-loop-i : goal.decreases-loop-i
+decreases-loop-i l = length l.s - l.i
