@@ -25,17 +25,15 @@ returns-clause-result_value c =
     let all : length a.lens.now - 0 ≡ length a.lens.now = omega arith in
     sym end ∙ l.invariant.1 ∙ ap (λ (m : ℕ). Whole s a.stop a.fuel a.from 0 m) all
 
--- OLD pub loop-k-preserved : goal.loop-k-preserved
--- OLD loop-k-preserved c =
--- OLD     let a = c.args in
--- OLD     let s = lists a.lens.now a.ops.now a.vals.now in
--- OLD     let n = length a.lens.now in
--- OLD     let l = c.loop-k in
--- OLD     let on = turned s l.g l.invariant.0 (stop_of a.stop (scripts_of s)) a.fuel l.k c.loop-k-test.true in (
--- OLD       c.until-g.ensures.under_way_2,
--- OLD       subst (λ (x : Going). Whole s a.stop a.fuel x (l.k + 1) (n - (l.k + 1)) ≡ Whole s a.stop a.fuel l.g l.k (n - l.k)) (sym c.until-g.ensures.result_value) on ∙ l.invariant.1,
--- OLD       omega (arith, c.until-g.ensures.used_bound, l.invariant.2, c.requires.1),
--- OLD       omega (arith, c.loop-k-test.true),
--- OLD     )
 pub loop-k-preserved : goal.loop-k-preserved
-loop-k-preserved c = ?
+loop-k-preserved c =
+    let a = c.args in
+    let s = lists a.lens.now a.ops.now a.vals.now in
+    let n = length a.lens.now in
+    let l = c.loop-k in
+    let on = turned s l.g l.invariant.0 (stop_of a.stop (scripts_of s)) a.fuel l.k c.loop-k-test.true in (
+      c.until-g.ensures.under_way_2,
+      subst (λ (x : Going). Whole s a.stop a.fuel x (l.k + 1) (n - (l.k + 1)) ≡ Whole s a.stop a.fuel l.g l.k (n - l.k)) (sym c.until-g.ensures.result_value) on ∙ l.invariant.1,
+      omega (arith, c.until-g.ensures.used_bound, l.invariant.2, c.requires.fuel_bound),
+      omega (arith, c.loop-k-test.true),
+    )

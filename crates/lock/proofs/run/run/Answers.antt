@@ -36,13 +36,10 @@ returns-clause-value c =
     rw (made s a.count a.lock a.recs a.schedule.now a.budget a.trace.now _ none many, (none_refused s a.count a.lock a.recs none).0)
     (c.run_ready.ensures.value)
 
--- OLD pub returns-clause-trace_after : goal.returns-clause-trace_after
--- OLD returns-clause-trace_after c =
--- OLD     let a = c.args in
--- OLD     let s = lists a.lens.now a.ops.now a.vals.now in
--- OLD     let none = no_number s (run_refusal_of s a.count a.lock (take a.count a.recs)) _ c.refused-why.ensures c.if-why-ne-NONE.false in
--- OLD     let many : c.smaller-n.result ≡ entries a.budget a.schedule.now a.trace.now = rw (c.smaller-n.ensures, c.smaller.ensures) in
--- OLD     rw (made s a.count a.lock a.recs a.schedule.now a.budget a.trace.now _ none many, (none_refused s a.count a.lock a.recs none).0)
--- OLD     (c.run_ready.ensures.trace_after)
 pub returns-clause-trace_after : goal.returns-clause-trace_after
-returns-clause-trace_after c = ?
+returns-clause-trace_after c =
+    let a = c.args in
+    let s = lists a.lens.now a.ops.now a.vals.now in
+    let none = no_number s (run_refusal_of s a.count a.lock (take a.count a.recs)) _ c.refused-why.ensures c.if-why-ne-NONE.false in
+    let many : c.smaller-n.result ≡ entries a.budget a.schedule.now a.trace.now = rw (c.smaller-n.ensures, c.smaller.ensures) in
+    rw (made s a.count a.lock a.recs a.schedule.now a.budget a.trace.now _ none many) c.run_ready.ensures.trace_after

@@ -7,6 +7,7 @@ use Rattle.machine.specs.Lists.{lists, scripts_of, beside}
 use Rattle.lock.proofs.Refusing.{inside}
 use Rattle.lock.proofs.Running.{Stepped, begins, one_more, may_enter, enters, enters_not, all_done}
 use Rattle.lock.proofs.run.run_ready.Goals as goal
+use Rattle.lock.proofs.run.run_ready.Goals.{then-t-count, else-t-count}
 
 pub loop-k-init : goal.loop-k-init
 loop-k-init c =
@@ -77,27 +78,24 @@ returns-clause-value c =
     (all_done (lists a.lens.now a.ops.now a.vals.now) a.lock a.recs a.schedule.now a.n a.trace.now g.l g.rs g.busy g.done g.k g.trace g.invariant
     _ c.none.ensures c.loop-k-test.false).0
 
--- OLD pub loop-k-preserved : goal.loop-k-preserved
--- OLD loop-k-preserved c =
--- OLD     let first = c in
--- OLD     let a = first.args in
--- OLD     let g = c.loop-k in
--- OLD     let starts = c.starts_of-starts in
--- OLD     let j = c.if-t-count in
--- OLD     let s = lists a.lens.now a.ops.now a.vals.now in
--- OLD     let t = get_or a.schedule.now g.k 0 in
--- OLD     let e : Stepped (scripts_of s) (length a.lens.now) g.l g.rs t j.l j.rs j.busy j.row =
--- OLD     ⊎_elim
--- OLD     (λ w. rw (w.7, w.8, w.9, w.10)
--- OLD     (enters s a.lock a.recs a.schedule.now a.n a.trace.now g.l g.rs g.busy g.done g.k g.trace g.invariant first.requires.ready _ t _
--- OLD     w.0.taken (starts.ensures t w.0.taken) w.3.ensures))
--- OLD     (λ w. rw (w.1, w.2, w.3, w.4)
--- OLD     (enters_not s a.lock a.recs a.schedule.now a.n a.trace.now g.l g.rs g.busy g.done g.k g.trace g.invariant first.requires.ready t _
--- OLD     w.0.left c.row_of-row.ensures))
--- OLD     j.branch
--- OLD     in
--- OLD     rw (c.one_if_zero-done.ensures.value, c.put_row.ensures)
--- OLD     (one_more s a.lock a.recs a.schedule.now a.n a.trace.now g.l g.rs g.busy g.done g.k g.trace g.invariant j.l j.rs j.busy
--- OLD     j.row c.loop-k-test.true first.requires.n_in_bounds first.requires.n_in_bounds_2 e)
 pub loop-k-preserved : goal.loop-k-preserved
-loop-k-preserved c = ?
+loop-k-preserved c =
+    let a = c.args in
+    let g = c.loop-k in
+    let starts = c.starts_of-starts in
+    let j = c.if-t-count in
+    let s = lists a.lens.now a.ops.now a.vals.now in
+    let t = get_or a.schedule.now g.k 0 in
+    let e : Stepped (scripts_of s) (length a.lens.now) g.l g.rs t j.l j.rs j.busy j.row =
+    elim j.branch [
+      then-t-count w ↦ rw (w.l-is, w.rs-is, w.busy-is, w.row-is)
+      (enters s a.lock a.recs a.schedule.now a.n a.trace.now g.l g.rs g.busy g.done g.k g.trace g.invariant c.requires.ready _ t _
+      w.if-t-count.true (starts.ensures t w.if-t-count.true) w.enter_at-e.ensures)
+    | else-t-count w ↦ rw (w.l-is, w.rs-is, w.busy-is, w.row-is)
+      (enters_not s a.lock a.recs a.schedule.now a.n a.trace.now g.l g.rs g.busy g.done g.k g.trace g.invariant c.requires.ready t _
+      w.if-t-count.false c.row_of-row.ensures)
+    ]
+    in
+    rw (c.one_if_zero-done.ensures.value, c.put_row.ensures)
+    (one_more s a.lock a.recs a.schedule.now a.n a.trace.now g.l g.rs g.busy g.done g.k g.trace g.invariant j.l j.rs j.busy
+    j.row c.loop-k-test.true c.requires.n_in_bounds c.requires.n_in_bounds_2 e)

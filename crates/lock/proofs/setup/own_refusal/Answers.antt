@@ -2,56 +2,43 @@
 use mathlib.Core.Path.{ap, sym, ◌∙◌}
 use mathlib.Core.Logic.{⊎_elim}
 use mathlib.Core.Bool.{not}
-use borrow.Author.Tests.{eq-eqb, ne_eqb}
+use borrow.Author.Tests.{eq-eqb, ne_eqb, le-ltb, lt-ltb}
 use Rattle.machine.specs.Refusals.{lowest}
 use Rattle.lock.proofs.setup.own_refusal.Goals as goal
+use Rattle.lock.proofs.setup.own_refusal.Goals.{then-threads-eq0-via-then-threads-eq0, then-threads-eq0-via-else-threads-eq0+then-threads-gt-MOST_THREADS}
 
--- OLD pub returns : goal.returns
--- OLD unfolding lowest
--- OLD returns c =
--- OLD     simp (
--- OLD       ne_eqb _ _ c.then-threads-eq0.false,
--- OLD       c.if-threads-gt-MOST_THREADS.false,
--- OLD       ne_eqb _ _ c.if-top-eq0.false,
--- OLD       ap not (sym c.is_good.ensures) ∙ c.if-not-is_good.false,
--- OLD       ap not (sym c.permits.ensures) ∙ c.if-not-permits.false,
--- OLD     )
 pub returns : goal.returns
-returns c = ?
+unfolding lowest
+returns c =
+    simp (
+      ne_eqb _ _ c.if-threads-eq0.false, le-ltb _ _ c.if-threads-gt-MOST_THREADS.false,
+      ne_eqb _ _ c.if-top-eq0.false,
+      sym c.is_good.ensures ∙ c.if-not-is_good.false,
+      sym c.permits.ensures ∙ c.if-not-permits.false,
+    )
 
--- OLD pub returns-then-not-is_good : goal.returns-then-not-is_good
--- OLD unfolding lowest
--- OLD returns-then-not-is_good c =
--- OLD     simp (
--- OLD       ne_eqb _ _ c.then-threads-eq0.false,
--- OLD       c.if-threads-gt-MOST_THREADS.false,
--- OLD       ne_eqb _ _ c.if-top-eq0.false,
--- OLD       ap not (sym c.is_good.ensures) ∙ c.if-not-is_good.true,
--- OLD     )
 pub returns-then-not-is_good : goal.returns-then-not-is_good
-returns-then-not-is_good c = ?
+unfolding lowest
+returns-then-not-is_good c = simp (ne_eqb _ _ c.if-threads-eq0.false, le-ltb _ _ c.if-threads-gt-MOST_THREADS.false, ne_eqb _ _ c.if-top-eq0.false, sym c.is_good.ensures ∙ c.if-not-is_good.true)
 
--- OLD pub returns-then-not-permits : goal.returns-then-not-permits
--- OLD unfolding lowest
--- OLD returns-then-not-permits c =
--- OLD     simp (
--- OLD       ne_eqb _ _ c.then-threads-eq0.false,
--- OLD       c.if-threads-gt-MOST_THREADS.false,
--- OLD       ne_eqb _ _ c.if-top-eq0.false,
--- OLD       ap not (sym c.is_good.ensures) ∙ c.if-not-is_good.false,
--- OLD       ap not (sym c.permits.ensures) ∙ c.if-not-permits.true,
--- OLD     )
 pub returns-then-not-permits : goal.returns-then-not-permits
-returns-then-not-permits c = ?
+unfolding lowest
+returns-then-not-permits c =
+    simp (
+      ne_eqb _ _ c.if-threads-eq0.false, le-ltb _ _ c.if-threads-gt-MOST_THREADS.false,
+      ne_eqb _ _ c.if-top-eq0.false,
+      sym c.is_good.ensures ∙ c.if-not-is_good.false,
+      sym c.permits.ensures ∙ c.if-not-permits.true,
+    )
 
--- OLD pub returns-then-threads-eq0 : goal.returns-then-threads-eq0
--- OLD unfolding lowest
--- OLD returns-then-threads-eq0 c = ⊎_elim (λ w. simp (eq-eqb _ _ w.taken)) (λ w. simp (ne_eqb _ _ w.0.left, w.1.taken)) c.then-threads-eq0.branch
 pub returns-then-threads-eq0 : goal.returns-then-threads-eq0
-returns-then-threads-eq0 c = ?
+unfolding lowest
+returns-then-threads-eq0 c =
+    elim c.then-threads-eq0.branch [
+      then-threads-eq0-via-then-threads-eq0 w ↦ simp (eq-eqb _ _ w.if-threads-eq0.true)
+    | then-threads-eq0-via-else-threads-eq0+then-threads-gt-MOST_THREADS w ↦ simp (ne_eqb _ _ w.if-threads-eq0.false, lt-ltb _ _ w.if-threads-gt-MOST_THREADS.true)
+    ]
 
--- OLD pub returns-then-top-eq0 : goal.returns-then-top-eq0
--- OLD unfolding lowest
--- OLD returns-then-top-eq0 c = simp (ne_eqb _ _ c.then-threads-eq0.false, c.if-threads-gt-MOST_THREADS.false, eq-eqb _ _ c.if-top-eq0.true)
 pub returns-then-top-eq0 : goal.returns-then-top-eq0
-returns-then-top-eq0 c = ?
+unfolding lowest
+returns-then-top-eq0 c = simp (ne_eqb _ _ c.if-threads-eq0.false, le-ltb _ _ c.if-threads-gt-MOST_THREADS.false, eq-eqb _ _ c.if-top-eq0.true)
