@@ -19,10 +19,7 @@ returns c =
     let l = c.loop-i in
     sym (l.invariant.1 ∙ digits_over c.args.s.now l.i l.v c.loop-i-test.false)
 
--- OLD pub loop-i-preserved : goal.loop-i-preserved
--- OLD loop-i-preserved c =
--- OLD     let l = c.loop-i in
--- OLD     let m = c.m-1.given in
--- OLD     (omega arith, l.invariant.1 ∙ digits_is c.args.s.now l.i l.v m.0.0 (omega arith) (sym c.one_more-m.ensures ∙ m.1))
 pub loop-i-preserved : goal.loop-i-preserved
-loop-i-preserved c = ?
+loop-i-preserved c =
+    let l = c.loop-i in
+    (omega arith, l.invariant.1 ∙ digits_is c.args.s.now l.i l.v c.in-Is.x (omega arith) (sym c.one_more-m.ensures ∙ c.in-Is.is))
