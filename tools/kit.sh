@@ -13,14 +13,6 @@ run() {
     "$kit/lib/ld-linux-x86-64.so.2" --library-path "$kit/lib" "$@"
 }
 
-# proved PROGRAM..: each is proved and built, as crates/PROGRAM/out/PROGRAM. rt runs it then: on nothing, and what it prints is thrown away.
-# It is to be called in the folder of crates.txt.
-proved() {
-    for program; do
-        (cd "crates/$program" && rt run </dev/null >/dev/null 2>&1) || return
-    done
-}
-
 # The programs of the command.
 programs="program_run program_why program_drain program_wave program_unwave"
 
