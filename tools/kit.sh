@@ -19,9 +19,9 @@ programs="program_run program_why program_drain program_wave program_unwave"
 # keep PROGRAM..: what rt has built becomes the command's, in target/proved: rt builds what is proved and nothing else, and may remove it later. Where
 # the text was changed after target/began was made, the text is newer.
 keep() {
-    for program; do
-        mkdir -p target/proved && cp "crates/$program/out/$program" "target/proved/$program.$$" &&
-            touch -r target/began "target/proved/$program.$$" && mv "target/proved/$program.$$" "target/proved/$program" || return
+    for built; do
+        mkdir -p target/proved && cp "crates/$built/out/$built" "target/proved/$built.$$" &&
+            touch -r target/began "target/proved/$built.$$" && mv "target/proved/$built.$$" "target/proved/$built" || return
     done
 } 2>/dev/null
 
