@@ -5,11 +5,11 @@
 
 ghost use Rattle.std.specs.Prelude.{◌≤◌, ◌≡◌, length};
 
-use libc::{STDERR_FILENO, STDOUT_FILENO};
 use lock_words::names::NONE;
 use program_chunks::Input;
 use program_intake::{Came, Intake};
 use scenario_read::Stop;
+use std::io::{Stderr, Stdin, Stdout};
 
 // So many bytes of text are written at once; behind them the list has room for a line.
 const FULL: usize = 50000;
@@ -24,7 +24,18 @@ struct Run {
     ended: bool,
 }
 
-fn main() {
+// Where the scenario goes, and where it is said what is wrong.
+#[derive(Clone, Copy)]
+struct Outputs {
+    out: Stdout,
+    err: Stderr,
+}
+
+fn main(rt: HostRuntime) {
+    let to = Outputs {
+        out: rt.stdout(),
+        err: rt.stderr(),
+    };
     let mut line = [0; 80];
     let mut lens = [0; 16];
     let mut ops = [0; 1024];
@@ -35,6 +46,8 @@ fn main() {
     let mut order = order_room();
     let mut out = io::large_buffer();
     turns(
+        rt.stdin(),
+        to,
         &mut line,
         &mut lens,
         &mut ops,
@@ -56,6 +69,8 @@ fn order_room() -> [u64; 3120]
 
 // The lists have the places that the reader and drain need.
 fn turns(
+    input: Stdin,
+    to: Outputs,
     line: &mut [u8; 80],
     lens: &mut [u64],
     ops: &mut [u64],
@@ -82,13 +97,15 @@ fn turns(
         }
         left -= 1;
         run = turn(
-            run, line, lens, ops, vals, schedule, rows, chunk, order, out,
+            input, to, run, line, lens, ops, vals, schedule, rows, chunk, order, out,
         );
     }
 }
 
 // A chunk goes out as it came, and is then run; its rows are those that the next program prints.
 fn turn(
+    input: Stdin,
+    to: Outputs,
     run: Run,
     line: &mut [u8; 80],
     lens: &mut [u64],
@@ -101,13 +118,11 @@ fn turn(
     out: &mut [u8],
 ) -> Run {
     let intake = run.intake;
-    let input = program_intake::read_chunk(intake, chunk);
-    let done = hand_on(intake, input, chunk);
-    let came = program_intake::take_more(
-        intake, input, line, lens, ops, vals, schedule, chunk, rows,
-    );
+    let got = program_intake::read_chunk(input, intake, chunk);
+    let done = hand_on(to, intake, got, chunk);
+    let came = program_intake::take_more(intake, got, line, lens, ops, vals, schedule, chunk, rows);
     let within = is_within(run.within, intake);
-    after(came, done, within, lens, ops, vals, order, out)
+    after(to, came, done, within, lens, ops, vals, order, out)
 }
 
 // Whether another chunk was read in the place of the one that this turn began with.
@@ -116,9 +131,9 @@ fn has_read(before: Intake) -> bool {
     !before.full && !program_chunks::stays(input)
 }
 
-fn hand_on(before: Intake, input: Input, chunk: &[u8]) -> bool {
+fn hand_on(to: Outputs, before: Intake, input: Input, chunk: &[u8]) -> bool {
     if has_read(before) {
-        return write(program_chunks::front(chunk, input.len));
+        return write(to, program_chunks::front(chunk, input.len));
     }
     true
 }
@@ -134,6 +149,7 @@ fn is_within(within: bool, before: Intake) -> bool {
 }
 
 fn after(
+    to: Outputs,
     came: Came,
     done: bool,
     within: bool,
@@ -147,6 +163,7 @@ fn after(
     let input = intake.input;
     let stop = came.stop;
     drain(
+        to,
         done && is_over(stop),
         intake,
         within,
@@ -157,8 +174,7 @@ fn after(
         out,
     );
     if input.failed {
-        io::write_all(
-            STDERR_FILENO,
+        let _ = to.err.write_all(
             b"trestlecat: the input could not be read to its end, so the trace is not whole: give a file or a pipe that can be read\n",
         );
     }
@@ -180,6 +196,7 @@ fn is_over(stop: Stop) -> bool {
 
 // At the end of an accepted scenario, what drain makes.
 fn drain(
+    to: Outputs,
     over: bool,
     intake: Intake,
     within: bool,
@@ -209,16 +226,16 @@ fn drain(
     let why = answer.refusal;
     if why.number != NONE {
         let n = scenario_text::put_refusal(out, 0, why.number, 0);
-        io::write_all(STDERR_FILENO, program_chunks::front(out, n));
+        let _ = to.err.write_all(program_chunks::front(out, n));
         return;
     }
-    if write_lines(within, order, answer.n, out) {
-        say_drained(answer.n, answer.bound, out);
+    if write_lines(to, within, order, answer.n, out) {
+        say_drained(to.err, answer.n, answer.bound, out);
     }
 }
 
 // A run line for each of the first n entries, on lines of their own.
-fn write_lines(within: bool, order: &[u64], n: u64, out: &mut [u8]) -> bool {
+fn write_lines(to: Outputs, within: bool, order: &[u64], n: u64, out: &mut [u8]) -> bool {
     let mut at = put_break(within, n, out);
     let mut i = 0;
     while i < order.len() {
@@ -227,14 +244,14 @@ fn write_lines(within: bool, order: &[u64], n: u64, out: &mut [u8]) -> bool {
         }
         at = put_line(order[i], out, at);
         if FULL < at {
-            if !write(program_chunks::front(out, at)) {
+            if !write(to, program_chunks::front(out, at)) {
                 return false;
             }
             at = 0;
         }
         i += 1;
     }
-    write(program_chunks::front(out, at))
+    write(to, program_chunks::front(out, at))
 }
 
 fn put_break(within: bool, n: u64, out: &mut [u8]) -> usize {
@@ -250,20 +267,19 @@ fn put_line(thread: u64, out: &mut [u8], at: usize) -> usize {
     scenario_text::put_bytes(out, m, b",1,0\r\n")
 }
 
-fn say_drained(entries: u64, bound: u64, out: &mut [u8]) {
+fn say_drained(err: Stderr, entries: u64, bound: u64, out: &mut [u8]) {
     let n = scenario_text::put_bytes(out, 0, b"drained,");
     let m = scenario_text::put_number(out, n, entries);
     let k = scenario_text::put_bytes(out, m, b",");
     let j = scenario_text::put_number(out, k, bound);
     let end = scenario_text::put_bytes(out, j, b"\r\n");
-    io::write_all(STDERR_FILENO, program_chunks::front(out, end));
+    let _ = err.write_all(program_chunks::front(out, end));
 }
 
-fn write(text: &[u8]) -> bool {
-    let done = io::write_all(STDOUT_FILENO, text);
+fn write(to: Outputs, text: &[u8]) -> bool {
+    let done = to.out.write_all(text).is_ok();
     if !done {
-        io::write_all(
-            STDERR_FILENO,
+        let _ = to.err.write_all(
             b"trestlecat: the scenario could not be handed on to its end, so the trace is not whole: make room, or let the reader take all of it\n",
         );
     }

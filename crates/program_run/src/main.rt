@@ -5,12 +5,12 @@ ghost use Rattle.std.specs.Prelude.{◌≡◌, ◌+◌, ◌*◌, ◌/◌, ◌≤
 ghost use Rattle.std.proofs.lemmas.List.Edits.{sets};
 ghost use Rattle.scenario_prints.specs.Prints.{more_text};
 
-use libc::{STDERR_FILENO, STDOUT_FILENO};
 use machine::ROW_WORDS;
 use program_chunks::Input;
 use program_intake::{Came, Intake};
 use scenario_read::Stop;
 use scenario_stages::Read;
+use std::io::{Stderr, Stdin, Stdout};
 
 // What is handed from turn to turn, besides the lists.
 #[derive(Clone, Copy)]
@@ -32,7 +32,18 @@ struct Room {
     lost: bool,
 }
 
-fn main() {
+// Where the trace goes, and where it is said what is wrong.
+#[derive(Clone, Copy)]
+struct Outputs {
+    out: Stdout,
+    err: Stderr,
+}
+
+fn main(rt: HostRuntime) {
+    let to = Outputs {
+        out: rt.stdout(),
+        err: rt.stderr(),
+    };
     let mut line = [0; 80];
     let mut lens = [0; 16];
     let mut ops = [0; 1024];
@@ -42,6 +53,8 @@ fn main() {
     let mut chunk = io::large_buffer();
     let mut out = io::large_buffer();
     turns(
+        rt.stdin(),
+        to,
         &mut line,
         &mut lens,
         &mut ops,
@@ -55,6 +68,8 @@ fn main() {
 
 // The text of as many rows as the list holds, and of a refusal, has room in the other; and the lists have the places that the reader needs.
 fn turns(
+    input: Stdin,
+    to: Outputs,
     line: &mut [u8; 80],
     lens: &mut [u64],
     ops: &mut [u64],
@@ -81,12 +96,16 @@ fn turns(
             return;
         }
         left -= 1;
-        run = turn(run, line, lens, ops, vals, schedule, rows, chunk, out);
+        run = turn(
+            input, to, run, line, lens, ops, vals, schedule, rows, chunk, out,
+        );
     }
 }
 
 // More rows, and their text behind what waits.
 fn turn(
+    input: Stdin,
+    to: Outputs,
     run: Run,
     line: &mut [u8; 80],
     lens: &mut [u64],
@@ -100,21 +119,19 @@ fn turn(
     requires { 148 * (length rows.old / 6) + 51 ≤ length out.old }
 {
     let intake = run.intake;
-    let input = program_intake::read_chunk(intake, chunk);
-    let came = program_intake::take_more(
-        intake, input, line, lens, ops, vals, schedule, chunk, rows,
-    );
+    let got = program_intake::read_chunk(input, intake, chunk);
+    let came = program_intake::take_more(intake, got, line, lens, ops, vals, schedule, chunk, rows);
     let n = came.at / ROW_WORDS;
-    let room = make_room(n, out, run.at);
+    let room = make_room(to, n, out, run.at);
     let stop = came.stop;
     let end = put_more(run.row, rows, n, stop, out, room.at);
     let row = std::num::wrapping_add_u64(run.row, n as u64);
-    let len = refused_length(intake, input, came, chunk);
-    after(row, came, room.lost, len, line, out, end)
+    let len = refused_length(intake, got, came, chunk);
+    after(to, row, came, room.lost, len, line, out, end)
 }
 
 // What waits is written where n rows and a refusal have no room behind it.
-fn make_room(n: usize, out: &[u8], at: usize) -> Room
+fn make_room(to: Outputs, n: usize, out: &[u8], at: usize) -> Room
     requires { 148 * n + 51 ≤ length out.now }
     ensures at_value { result.at ≡ (if nat_le (at + (148 * n + 51)) (length out.now) then at else 0) }
     ensures n_in_bounds { result.at + (148 * n + 51) ≤ length out.now }
@@ -124,7 +141,7 @@ fn make_room(n: usize, out: &[u8], at: usize) -> Room
     }
     Room {
         at: 0,
-        lost: !write(program_chunks::front(out, at)),
+        lost: !write(to, program_chunks::front(out, at)),
     }
 }
 
@@ -160,6 +177,7 @@ fn refused_length(before: Intake, input: Input, came: Came, chunk: &[u8]) -> usi
 
 // Before more is read, which may take long, and at the end, what waits is written.
 fn after(
+    to: Outputs,
     row: u64,
     came: Came,
     lost: bool,
@@ -175,11 +193,10 @@ fn after(
     let stop = came.stop;
     let ends = input.failed || scenario_read::ends(stop);
     let wait = scenario_read::is_full(stop) && !ends;
-    let done = !lost && (wait || write(program_chunks::front(out, at)));
-    tell(done, stop, read, len, line, out);
+    let done = !lost && (wait || write(to, program_chunks::front(out, at)));
+    tell(to.err, done, stop, read, len, line, out);
     if input.failed {
-        io::write_all(
-            STDERR_FILENO,
+        let _ = to.err.write_all(
             b"trestlecat: the input could not be read to its end, so the trace is not whole: give a file or a pipe that can be read\n",
         );
     }
@@ -191,11 +208,10 @@ fn after(
     }
 }
 
-fn write(text: &[u8]) -> bool {
-    let done = io::write_all(STDOUT_FILENO, text);
+fn write(to: Outputs, text: &[u8]) -> bool {
+    let done = to.out.write_all(text).is_ok();
     if !done {
-        io::write_all(
-            STDERR_FILENO,
+        let _ = to.err.write_all(
             b"trestlecat: the trace could not be written to its end, so it must not be used: make room, or let the reader take all of it\n",
         );
     }
@@ -203,7 +219,7 @@ fn write(text: &[u8]) -> bool {
 }
 
 // The refusal, where there is one and all is written, and what is known of its line.
-fn tell(whole: bool, stop: Stop, read: Read, len: usize, line: &[u8], out: &mut [u8]) {
+fn tell(err: Stderr, whole: bool, stop: Stop, read: Read, len: usize, line: &[u8], out: &mut [u8]) {
     if !whole {
         return;
     }
@@ -212,5 +228,5 @@ fn tell(whole: bool, stop: Stop, read: Read, len: usize, line: &[u8], out: &mut 
         return;
     }
     let m = program_told::put_read(out, n, read, len, line);
-    io::write_all(STDERR_FILENO, program_chunks::front(out, m));
+    let _ = err.write_all(program_chunks::front(out, m));
 }

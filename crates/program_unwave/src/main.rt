@@ -4,7 +4,7 @@
 
 ghost use Rattle.std.specs.Prelude.{◌≡◌, length};
 
-use libc::{STDERR_FILENO, STDIN_FILENO, STDOUT_FILENO};
+use std::io::{Read, Stderr, Stdin, Stdout};
 use vcd::{Answer, Signals};
 use vcd_code::NO_ROOM;
 
@@ -19,12 +19,30 @@ struct Got {
     too_large: bool,
 }
 
-fn main() {
+// Where the signals go, and where it is said what is wrong.
+#[derive(Clone, Copy)]
+struct Outputs {
+    out: Stdout,
+    err: Stderr,
+}
+
+fn main(rt: HostRuntime) {
+    let to = Outputs {
+        out: rt.stdout(),
+        err: rt.stderr(),
+    };
     let mut file = file_room();
     let mut chunk = io::large_buffer();
     let mut signals = signals_room();
     let mut out = io::large_buffer();
-    read_and_print(&mut file, &mut chunk, &mut signals, &mut out);
+    read_and_print(
+        rt.stdin(),
+        to,
+        &mut file,
+        &mut chunk,
+        &mut signals,
+        &mut out,
+    );
 }
 
 // What the limits leave room for. The `ensures` give only the lengths, which lending the arrays needs.
@@ -41,39 +59,42 @@ fn signals_room() -> [u64; 32768]
 }
 
 // A read that fails is not the end of the input: what was cut off there might be another waveform.
-fn read_and_print(file: &mut [u8], chunk: &mut [u8], signals: &mut [u64], out: &mut [u8]) {
-    let got = read_file(file, chunk);
+fn read_and_print(
+    input: Stdin,
+    to: Outputs,
+    file: &mut [u8],
+    chunk: &mut [u8],
+    signals: &mut [u64],
+    out: &mut [u8],
+) {
+    let got = read_file(input, file, chunk);
     if got.failed {
-        io::write_all(
-            STDERR_FILENO,
+        let _ = to.err.write_all(
             b"trestlecat: the input could not be read to its end, so nothing is printed: give a file or a pipe that can be read\n",
         );
         return;
     }
     let answer = read_signals(program_chunks::front(file, got.n), got.too_large, signals);
-    print(answer, signals, out);
+    print(to, answer, signals, out);
 }
 
 // Up to the end of the input, which is read once, so that at a terminal it is said once; or as far as there is room.
-fn read_file(file: &mut [u8], chunk: &mut [u8]) -> Got {
+fn read_file(mut input: Stdin, file: &mut [u8], chunk: &mut [u8]) -> Got {
     let mut n = 0;
     // A proved loop has to end, and nothing says that the input does: it counts down from a number that no input uses up.
     let mut left = u64::MAX;
     while 0 < left {
         left -= 1;
-        let got = libc::read(STDIN_FILENO, chunk);
-        if got <= 0 {
+        let got = input.read(chunk);
+        let more = got.unwrap_or(0);
+        if more == 0 {
             return Got {
                 n,
-                failed: got < 0,
+                failed: got.is_err(),
                 too_large: false,
             };
         }
-        let m = scenario_text::put_bytes(
-            file,
-            n,
-            program_chunks::front(chunk, io::count(got, chunk)),
-        );
+        let m = scenario_text::put_bytes(file, n, program_chunks::front(chunk, more));
         if m == n {
             break;
         }
@@ -96,20 +117,20 @@ fn read_signals(file: &[u8], too_large: bool, signals: &mut [u64]) -> Answer {
     vcd_code::read::read(file, signals)
 }
 
-fn print(answer: Answer, signals: &[u64], out: &mut [u8]) {
+fn print(to: Outputs, answer: Answer, signals: &[u64], out: &mut [u8]) {
     if answer.refused != 0 {
         let n = scenario_text::put_refusal(out, 0, answer.refused, 0);
         let text = program_chunks::front(out, n);
         // whoever started it makes words of this, as of what the other programs tell
-        if write(text) {
-            io::write_all(STDERR_FILENO, text);
+        if write(to, text) {
+            let _ = to.err.write_all(text);
         }
         return;
     }
-    print_lines(signals, answer.n, out);
+    print_lines(to, signals, answer.n, out);
 }
 
-fn print_lines(signals: &[u64], rows: u64, out: &mut [u8]) {
+fn print_lines(to: Outputs, signals: &[u64], rows: u64, out: &mut [u8]) {
     let mut at = scenario_text::put_bytes(out, 0, b"time,exc,rc\r\n");
     let mut t = 0;
     while t < signals.len() {
@@ -118,14 +139,14 @@ fn print_lines(signals: &[u64], rows: u64, out: &mut [u8]) {
         }
         at = put_line(signals, t, out, at);
         if FULL < at {
-            if !write(program_chunks::front(out, at)) {
+            if !write(to, program_chunks::front(out, at)) {
                 return;
             }
             at = 0;
         }
         t += 1;
     }
-    write(program_chunks::front(out, at));
+    write(to, program_chunks::front(out, at));
 }
 
 fn put_line(signals: &[u64], t: usize, out: &mut [u8], at: usize) -> usize {
@@ -150,11 +171,10 @@ fn put_field(out: &mut [u8], at: usize, v: u64, end: &[u8]) -> usize {
     scenario_text::put_bytes(out, n, end)
 }
 
-fn write(text: &[u8]) -> bool {
-    let done = io::write_all(STDOUT_FILENO, text);
+fn write(to: Outputs, text: &[u8]) -> bool {
+    let done = to.out.write_all(text).is_ok();
     if !done {
-        io::write_all(
-            STDERR_FILENO,
+        let _ = to.err.write_all(
             b"trestlecat: the signals could not be written to their end, so they must not be used: make room, or let the reader take all of them\n",
         );
     }

@@ -7,12 +7,12 @@ ghost use Rattle.std.proofs.lemmas.List.Edits.{sets};
 ghost use Rattle.vcd.specs.Trace.{row_signals};
 ghost use Rattle.vcd_rows.specs.Waves.{left_by, text_by};
 
-use libc::{STDERR_FILENO, STDOUT_FILENO};
 use machine::ROW_WORDS;
 use program_chunks::Input;
 use program_intake::{Came, Intake};
 use scenario_read::Stop;
 use scenario_stages::Read;
+use std::io::{Stderr, Stdin, Stdout};
 use vcd::{Signals, Wave};
 use vcd_rows::Left;
 
@@ -35,7 +35,18 @@ struct Room {
     lost: bool,
 }
 
-fn main() {
+// Where the waveform goes, and where it is said what is wrong.
+#[derive(Clone, Copy)]
+struct Outputs {
+    out: Stdout,
+    err: Stderr,
+}
+
+fn main(rt: HostRuntime) {
+    let to = Outputs {
+        out: rt.stdout(),
+        err: rt.stderr(),
+    };
     let mut line = [0; 80];
     let mut lens = [0; 16];
     let mut ops = [0; 1024];
@@ -45,6 +56,8 @@ fn main() {
     let mut chunk = io::large_buffer();
     let mut out = io::large_buffer();
     turns(
+        rt.stdin(),
+        to,
         &mut line,
         &mut lens,
         &mut ops,
@@ -58,6 +71,8 @@ fn main() {
 
 // What as many rows as the list holds may change has room in the other; and the lists have the places that the reader needs.
 fn turns(
+    input: Stdin,
+    to: Outputs,
     line: &mut [u8; 80],
     lens: &mut [u64],
     ops: &mut [u64],
@@ -79,7 +94,9 @@ fn turns(
             return;
         }
         left -= 1;
-        run = turn(run, line, lens, ops, vals, schedule, rows, chunk, out);
+        run = turn(
+            input, to, run, line, lens, ops, vals, schedule, rows, chunk, out,
+        );
     }
 }
 
@@ -101,6 +118,8 @@ fn begin(out: &mut [u8]) -> Run {
 
 // More rows, and what they change behind what waits.
 fn turn(
+    input: Stdin,
+    to: Outputs,
     run: Run,
     line: &mut [u8; 80],
     lens: &mut [u64],
@@ -114,20 +133,18 @@ fn turn(
     requires { 93 * (length rows.old / 6) ≤ length out.old }
 {
     let intake = run.intake;
-    let input = program_intake::read_chunk(intake, chunk);
-    let came = program_intake::take_more(
-        intake, input, line, lens, ops, vals, schedule, chunk, rows,
-    );
+    let got = program_intake::read_chunk(input, intake, chunk);
+    let came = program_intake::take_more(intake, got, line, lens, ops, vals, schedule, chunk, rows);
     let n = came.at / ROW_WORDS;
-    let room = make_room(n, out, run.at);
+    let room = make_room(to, n, out, run.at);
     let wave = run.wave;
     let left = put_rows(wave, rows, n, out, room.at);
-    let len = refused_length(intake, input, came, chunk);
-    after(came, room.lost, left, len, line, out)
+    let len = refused_length(intake, got, came, chunk);
+    after(to, came, room.lost, left, len, line, out)
 }
 
 // What waits is written where the changes of n rows have no room behind it.
-fn make_room(n: usize, out: &[u8], at: usize) -> Room
+fn make_room(to: Outputs, n: usize, out: &[u8], at: usize) -> Room
     requires { 93 * n ≤ length out.now }
     ensures at_value { result.at ≡ cond (leb (at + 93 * n) (length out.now)) at 0 }
     ensures n_in_bounds { result.at + 93 * n ≤ length out.now }
@@ -137,7 +154,7 @@ fn make_room(n: usize, out: &[u8], at: usize) -> Room
     }
     Room {
         at: 0,
-        lost: !write(program_chunks::front(out, at)),
+        lost: !write(to, program_chunks::front(out, at)),
     }
 }
 
@@ -172,7 +189,15 @@ fn refused_length(before: Intake, input: Input, came: Came, chunk: &[u8]) -> usi
 }
 
 // Before more is read, which may take long, and at the end, what waits is written.
-fn after(came: Came, lost: bool, left: Left, len: usize, line: &[u8; 80], out: &mut [u8]) -> Run {
+fn after(
+    to: Outputs,
+    came: Came,
+    lost: bool,
+    left: Left,
+    len: usize,
+    line: &[u8; 80],
+    out: &mut [u8],
+) -> Run {
     let intake = came.intake;
     let input = intake.input;
     let state = intake.state;
@@ -181,12 +206,11 @@ fn after(came: Came, lost: bool, left: Left, len: usize, line: &[u8; 80], out: &
     let stop = came.stop;
     let ends = input.failed || scenario_read::ends(stop);
     let wait = scenario_read::is_full(stop) && !ends;
-    let done = !lost && (wait || write(program_chunks::front(out, left.at)));
-    let whole = close(done && scenario_read::ends(stop), wave, out);
-    tell(whole, stop, read, len, line, out);
+    let done = !lost && (wait || write(to, program_chunks::front(out, left.at)));
+    let whole = close(to, done && scenario_read::ends(stop), wave, out);
+    tell(to.err, whole, stop, read, len, line, out);
     if input.failed {
-        io::write_all(
-            STDERR_FILENO,
+        let _ = to.err.write_all(
             b"trestlecat: the input could not be read to its end, so the waveform is not whole: give a file or a pipe that can be read\n",
         );
     }
@@ -198,11 +222,10 @@ fn after(came: Came, lost: bool, left: Left, len: usize, line: &[u8; 80], out: &
     }
 }
 
-fn write(text: &[u8]) -> bool {
-    let done = io::write_all(STDOUT_FILENO, text);
+fn write(to: Outputs, text: &[u8]) -> bool {
+    let done = to.out.write_all(text).is_ok();
     if !done {
-        io::write_all(
-            STDERR_FILENO,
+        let _ = to.err.write_all(
             b"trestlecat: the waveform could not be written to its end, so it must not be used: make room, or let the reader take all of it\n",
         );
     }
@@ -210,16 +233,16 @@ fn write(text: &[u8]) -> bool {
 }
 
 // The close, where all before it is written and nothing comes any more. Whether the waveform is whole.
-fn close(ready: bool, wave: Wave, out: &mut [u8]) -> bool {
+fn close(to: Outputs, ready: bool, wave: Wave, out: &mut [u8]) -> bool {
     if !ready {
         return false;
     }
     let n = vcd_text::put_close(out, 0, wave);
-    write(program_chunks::front(out, n))
+    write(to, program_chunks::front(out, n))
 }
 
 // The refusal, where there is one and all is written, and what is known of its line.
-fn tell(whole: bool, stop: Stop, read: Read, len: usize, line: &[u8], out: &mut [u8]) {
+fn tell(err: Stderr, whole: bool, stop: Stop, read: Read, len: usize, line: &[u8], out: &mut [u8]) {
     if !whole {
         return;
     }
@@ -228,5 +251,5 @@ fn tell(whole: bool, stop: Stop, read: Read, len: usize, line: &[u8], out: &mut 
         return;
     }
     let m = program_told::put_read(out, n, read, len, line);
-    io::write_all(STDERR_FILENO, program_chunks::front(out, m));
+    let _ = err.write_all(program_chunks::front(out, m));
 }

@@ -6,9 +6,9 @@ ghost use Rattle.std.specs.Prelude.{◌≤◌, ◌≡◌, length};
 ghost use Rattle.std.proofs.lemmas.List.Edits.{sets};
 ghost use Rattle.program_why.specs.Answered.{answered};
 
-use libc::{STDERR_FILENO, STDOUT_FILENO};
 use program_intake::{Came, Intake};
 use scenario_read::Stop;
+use std::io::{Stderr, Stdin, Stdout};
 
 // What is handed from turn to turn, besides the lists.
 #[derive(Clone, Copy)]
@@ -18,7 +18,18 @@ struct Run {
     ended: bool,
 }
 
-fn main() {
+// Where the answers go, and where it is said what is wrong.
+#[derive(Clone, Copy)]
+struct Outputs {
+    out: Stdout,
+    err: Stderr,
+}
+
+fn main(rt: HostRuntime) {
+    let to = Outputs {
+        out: rt.stdout(),
+        err: rt.stderr(),
+    };
     let mut line = [0; 80];
     let mut lens = [0; 16];
     let mut ops = [0; 1024];
@@ -28,6 +39,8 @@ fn main() {
     let mut chunk = io::large_buffer();
     let mut out = io::large_buffer();
     turns(
+        rt.stdin(),
+        to,
         &mut line,
         &mut lens,
         &mut ops,
@@ -41,6 +54,8 @@ fn main() {
 
 // The answers have room in the list, and the lists have the places that the reader needs.
 fn turns(
+    input: Stdin,
+    to: Outputs,
     line: &mut [u8; 80],
     lens: &mut [u64],
     ops: &mut [u64],
@@ -64,12 +79,16 @@ fn turns(
             return;
         }
         left -= 1;
-        run = turn(run, line, lens, ops, vals, schedule, rows, chunk, out);
+        run = turn(
+            input, to, run, line, lens, ops, vals, schedule, rows, chunk, out,
+        );
     }
 }
 
 // The rows are not wanted: it is asked of what they leave.
 fn turn(
+    input: Stdin,
+    to: Outputs,
     run: Run,
     line: &mut [u8; 80],
     lens: &mut [u64],
@@ -83,25 +102,22 @@ fn turn(
     requires { 1386 ≤ length out.old }
 {
     let intake = run.intake;
-    let input = program_intake::read_chunk(intake, chunk);
-    let came = program_intake::take_more(
-        intake, input, line, lens, ops, vals, schedule, chunk, rows,
-    );
-    after(came, lens, ops, vals, out)
+    let got = program_intake::read_chunk(input, intake, chunk);
+    let came = program_intake::take_more(intake, got, line, lens, ops, vals, schedule, chunk, rows);
+    after(to, came, lens, ops, vals, out)
 }
 
 // A read that fails is no end of the scenario: then nothing is printed.
-fn after(came: Came, lens: &[u64], ops: &[u64], vals: &[u64], out: &mut [u8]) -> Run
+fn after(to: Outputs, came: Came, lens: &[u64], ops: &[u64], vals: &[u64], out: &mut [u8]) -> Run
     requires { 1386 ≤ length out.old }
 {
     let intake = came.intake;
     let input = intake.input;
     let stop = came.stop;
     let ends = scenario_read::ends(stop);
-    answer(ends, came, lens, ops, vals, out);
+    answer(to, ends, came, lens, ops, vals, out);
     if input.failed && !ends {
-        io::write_all(
-            STDERR_FILENO,
+        let _ = to.err.write_all(
             b"trestlecat: the input could not be read to its end, so nothing is answered: give a file or a pipe that can be read\n",
         );
     }
@@ -112,7 +128,15 @@ fn after(came: Came, lens: &[u64], ops: &[u64], vals: &[u64], out: &mut [u8]) ->
 }
 
 // At the end of the scenario.
-fn answer(ends: bool, came: Came, lens: &[u64], ops: &[u64], vals: &[u64], out: &mut [u8])
+fn answer(
+    to: Outputs,
+    ends: bool,
+    came: Came,
+    lens: &[u64],
+    ops: &[u64],
+    vals: &[u64],
+    out: &mut [u8],
+)
     requires { 1386 ≤ length out.old }
 {
     if !ends {
@@ -120,13 +144,12 @@ fn answer(ends: bool, came: Came, lens: &[u64], ops: &[u64], vals: &[u64], out: 
     }
     let stop = came.stop;
     let n = put_answers(came, lens, ops, vals, out);
-    let done = io::write_all(STDOUT_FILENO, program_chunks::front(out, n));
+    let done = to.out.write_all(program_chunks::front(out, n)).is_ok();
     if done && is_refused(stop) {
-        io::write_all(STDERR_FILENO, program_chunks::front(out, n));
+        let _ = to.err.write_all(program_chunks::front(out, n));
     }
     if !done {
-        io::write_all(
-            STDERR_FILENO,
+        let _ = to.err.write_all(
             b"trestlecat: the answers could not be written to their end, so they must not be used: make room, or let the reader take all of them\n",
         );
     }
