@@ -8,26 +8,22 @@ root=${1:-$(dirname "$0")/..}
 without() {
     awk '
     function lacks(what) { print FILENAME ": " name ": " what }
-    # whether the clause has an equation of what, behind so much, and its other side names neither it nor anything at exit
-    function equates(line, behind, what,    start, at, other) {
-        start = behind what " ≡ "
+    # whether the clause, or a part of it, is an equation of what, whose other side names neither it nor anything at exit
+    function equates(line, what,    start, at, other) {
+        start = "< " what " ≡ "
+        gsub(/[({×] */, "&< ", line)
         at = index(line, start)
         if (!at) return 0
         other = substr(line, at + length(start))
         sub(/ × .*/, "", other)
-        return !index(other, ".exit)") && !index(" " other " ", " " what " ")
+        gsub(/< /, "", other)
+        return other !~ /[.]new/ && !index(" " other " ", " " what " ")
     }
-    # an equation of the result, "now r" where it is a reference
-    function result_said(line,    r) {
-        if (!match(line, /λ [a-z]+\. /)) return 0
-        r = substr(line, RSTART, RLENGTH)
-        sub(/^[^ ]* /, "", r)
-        sub(/\. $/, "", r)
-        return equates(line, "⌜ ", r) || equates(line, "⌜ (", r) || equates(line, "⌜ now ", r)
-    }
+    # an equation of the result, of what it refers to where it is a reference
+    function result_said(line) { return equates(line, "result") || equates(line, "result.now") }
     function at_exit(p,    i) {
         for (i = 1; i <= clauses; i++)
-            if (equates(clause[i], "", "now (" p " .exit)")) return 1
+            if (equates(clause[i], p ".new")) return 1
         return 0
     }
     /^ *pub fn / { inside = 1; head = ""; said = 0; asks = 0; clauses = 0; begun = 0; name = $0; sub(/.*fn /, "", name); sub(/\(.*/, "", name) }
@@ -67,26 +63,26 @@ fi
 # functions that are wrong on purpose are found, one for each thing that is asked
 cat >"$room/wrong.rt" <<'END'
 pub fn asks(x: u64) -> u64
-    requires { ⌜ x < 10 ⌝ }
-    ensures { λ r. ⌜ r ≡ x ⌝ }
+    requires { x < 10 }
+    ensures { result ≡ x }
 {
 pub fn bounds(x: u64) -> u64
-    ensures { λ r. ⌜ r ≤ x ⌝ }
+    ensures { result ≤ x }
 {
 pub fn bare(x: u64) -> u64 {
 pub fn itself(x: u64) -> u64
-    ensures { λ r. ⌜ r ≡ r ⌝ }
+    ensures { result ≡ result }
 {
 pub fn leaves(
     x: u64,
     list: &mut [u64],
 ) -> u64
-    ensures { λ r. ⌜ r ≡ x ⌝ }
-    ensures { λ _. ⌜ length (now (list .exit)) ≡ length (now (list .entry)) ⌝ }
+    ensures value { result ≡ x }
+    ensures list_after { length list.new ≡ length list.old }
 {
 pub fn alike(a: &mut [u64], b: &mut [u64])
-    ensures { λ _. ⌜ now (a .exit) ≡ now (a .entry) ⌝ }
-    ensures { λ _. ⌜ now (b .exit) ≡ now (a .exit) ⌝ }
+    ensures a_after { a.new ≡ a.old }
+    ensures b_after { b.new ≡ a.new }
 {
 END
 [ "$(without "$room/wrong.rt" | wc -l)" -eq 7 ] || { echo "contracts: a wrong contract is not seen" >&2; exit 1; }

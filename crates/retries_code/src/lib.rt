@@ -3,7 +3,7 @@
 
 ghost use Rattle.std.specs.Prelude.{◌≡◌, ◌+◌, ◌*◌, ◌≤◌, ◌||◌, length, ◌==◌};
 ghost use Rattle.machine.specs.Names.{gives_back, releases_rc};
-ghost use Rattle.machine.specs.Run.{row_at, rows_of_words};
+ghost use Rattle.retries.specs.Rows.{row_at, rows_of_words};
 ghost use Rattle.retries.specs.Retries.{lost, changes};
 ghost use Rattle.retries.specs.Counts.{with_rows};
 ghost use Rattle.retries_code.specs.Code.{one_more, is_change, with_row};

@@ -218,7 +218,7 @@ module _ (done : List Line) (l : List ℕ) (ls : List (List ℕ)) (line : ℕ) (
       (record {
         more = 0;
         count = rw (ne_eqb k 0 some) (omega arith);
-        read = rw (append-nil done) r;
+        read = subst (λ (taken : List Line). Read taken s) (sym (append-nil done)) r;
         refused = λ e. (omega arith, omega arith, is);
         whole = λ none. absurd (some none);
       })
@@ -251,7 +251,7 @@ goes [] done line s counted r =
     record {
       more = 0;
       count = omega arith;
-      read = rw (append-nil done) r;
+      read = subst (λ (taken : List Line). Read taken s) (sym (append-nil done)) r;
       refused = λ some. absurd (some refl);
       whole = λ none. (refl, omega arith);
     }

@@ -247,3 +247,8 @@ for_another S L l i w h n = go (why S L l i) (because S L l i h) n
     go : (y : Reason) → Because S L l i y → Names y w → w ≢ i
     go y (flag_held v m up lt p) holder same = flag_places (here l i) (subst (λ (k : ℕ). HasFlag (here l k)) same p) (place m)
     go y (counted_by v m some lt p below) reader same = count_places (here l i) (subst (λ (k : ℕ). Counted (here l k)) same p) (code_8 S L l i h m.0).0
+    go _ (not_waiting _) none same = elim none [ ]
+    go _ (count_full _ _) none same = elim none [ ]
+    go _ (count_changed _ _) none same = elim none [ ]
+    go _ (flag_dropped _ _ _ _) none same = elim none [ ]
+    go _ (counted_dropped _ _ _ _) none same = elim none [ ]

@@ -32,7 +32,7 @@ use Rattle.machine.proofs.Sums.{sum_set}
 use Rattle.machine.proofs.Sweep.{Base, small, unrefused}
 use Rattle.machine.proofs.TidyLaws.{tidy_is_kept}
 use Rattle.why.specs.Why.{why, has_flag, is_counted}
-use Rattle.why.specs.Reasons.{Because, count_full, flag_held, flag_dropped, counted_by, counted_dropped, HasFlag, waits, takes, writes, puts, Counted, checks, backs, reads, NoneBelow, NoRecord, HeldBy, a_record, a_dropped_write, the_end, Names, holder, reader, MeetsReaders}
+use Rattle.why.specs.Reasons.{Because, not_waiting, count_full, count_changed, flag_held, flag_dropped, counted_by, counted_dropped, HasFlag, waits, takes, writes, puts, Counted, checks, backs, reads, NoneBelow, NoRecord, HeldBy, a_record, a_dropped_write, the_end, Names, holder, reader, MeetsReaders}
 use Rattle.why.specs.WayOn.{WayOut, ReadersLeave, all_out, one_out, WayOn, ReadersComeOut, NamedGoesOn, FullGoesDown, ChangedLooksAgain, NoneForDropped}
 use Rattle.why.specs.declared.Reason.{Reason}
 use Rattle.why.specs.declared.Reason.TheVariants.{NotWaiting, CountFull, CountChanged, Flag, Readers}
@@ -316,6 +316,11 @@ named_goes_on S L l i w h t n = go (why S L l i) ((why_exact S L l i h (why S L 
     go : (y : Reason) → Because S L l i y → Names y w → WayOn S L l w
     go y (flag_held v m on lt p) holder = holder_goes_on S L l w h t lt p
     go y (counted_by v m some lt p below) reader = by_itself S L l w h t lt (counted_ready L (here l w) p)
+    go _ (not_waiting _) x = elim x [ ]
+    go _ (count_full _ _) x = elim x [ ]
+    go _ (count_changed _ _) x = elim x [ ]
+    go _ (flag_dropped _ _ _ _) x = elim x [ ]
+    go _ (counted_dropped _ _ _ _) x = elim x [ ]
 
 pub changed_looks_again : ChangedLooksAgain
 changed_looks_again S L l i h e =

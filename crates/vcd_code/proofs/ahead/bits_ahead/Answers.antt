@@ -1,0 +1,29 @@
+-- `bits_ahead` meets its contract. The loop's invariant: the definition of the whole is that of the rest, from here on. The measure is what
+-- is left. Assumes nothing.
+use Prim.Native.Nat.{◌-◌}
+use mathlib.Core.Path.{sym, ◌∙◌}
+use native.Mathlib.Omega.{arith}
+use Rattle.vcd_code.proofs.Gather.{bits_other, bits_full, bits_more, bits_over}
+use Rattle.vcd_code.proofs.ahead.bits_ahead.Goals as goal
+
+pub returns-then-not-is_bit : goal.returns-then-not-is_bit
+returns-then-not-is_bit c =
+    let l = c.loop-i in
+    sym (l.invariant.1 ∙ bits_other c.args.s.now l.i l.v (omega arith) (sym c.is_bit.ensures ∙ c.if-not-is_bit.true))
+
+pub returns-then-v-ge-HALF : goal.returns-then-v-ge-HALF
+returns-then-v-ge-HALF c =
+    let l = c.loop-i in
+    let is = sym c.is_bit.ensures ∙ c.if-not-is_bit.false in
+    sym (l.invariant.1 ∙ bits_full c.args.s.now l.i l.v (omega arith) is c.if-v-ge-HALF.true)
+
+pub loop-i-preserved : goal.loop-i-preserved
+loop-i-preserved c =
+    let l = c.loop-i in
+    let is = sym c.is_bit.ensures ∙ c.if-not-is_bit.false in
+    (omega arith, l.invariant.1 ∙ rw c.value.ensures (bits_more c.args.s.now l.i l.v (omega arith) is c.if-v-ge-HALF.false))
+
+pub returns : goal.returns
+returns c =
+    let l = c.loop-i in
+    sym (l.invariant.1 ∙ bits_over c.args.s.now l.i l.v c.loop-i-test.false)

@@ -1,0 +1,28 @@
+-- `pass_change` meets its contract. Assumes nothing.
+use Prim.Native.Nat.{◌+◌}
+use Rattle.vcd.specs.Blocks.{change, change_bytes}
+use Rattle.vcd.proofs.Laws.{short}
+use Rattle.vcd_code.proofs.Walk.{made}
+use Rattle.vcd_code.proofs.write.pass_change.Goals as goal
+
+pub pass-requires : goal.pass-requires
+pass-requires c =
+    let a = c.args in
+    let put = c.put_change-n in
+    (made (change (a.p.time + 1) a.p.signals a.x) _ change_bytes _ (short.2 _ _ _) put.ensures.value put.ensures.out_after).0
+
+pub returns-clause-value : goal.returns-clause-value
+returns-clause-value c =
+    let a = c.args in
+    let put = c.put_change-n in
+    let is = (made (change (a.p.time + 1) a.p.signals a.x) _ change_bytes _ (short.2 _ _ _) put.ensures.value put.ensures.out_after).1 in
+    let pass = c.pass in
+    rw (← is) pass.ensures.value
+
+pub returns-clause-out_after : goal.returns-clause-out_after
+returns-clause-out_after c =
+    let a = c.args in
+    let put = c.put_change-n in
+    let is = (made (change (a.p.time + 1) a.p.signals a.x) _ change_bytes _ (short.2 _ _ _) put.ensures.value put.ensures.out_after).1 in
+    let pass = c.pass in
+    rw (← is) pass.ensures.out_after

@@ -1,0 +1,28 @@
+-- `pass_close` meets its contract. Assumes nothing.
+use Rattle.vcd.specs.Blocks.{time_bytes}
+use Rattle.vcd.specs.Wave.{close}
+use Rattle.vcd_code.proofs.TraceRows.{close_short}
+use Rattle.vcd_code.proofs.Walk.{made}
+use Rattle.vcd_code.proofs.write.pass_close.Goals as goal
+
+pub pass-requires : goal.pass-requires
+pass-requires c =
+    let a = c.args in
+    let put = c.put_close-n in
+    (made (close a.p) _ time_bytes _ (close_short a.p) put.ensures.value put.ensures.out_after).0
+
+pub returns-clause-value : goal.returns-clause-value
+returns-clause-value c =
+    let a = c.args in
+    let put = c.put_close-n in
+    let is = (made (close a.p) _ time_bytes _ (close_short a.p) put.ensures.value put.ensures.out_after).1 in
+    let pass = c.pass in
+    rw (← is) pass.ensures.value
+
+pub returns-clause-out_after : goal.returns-clause-out_after
+returns-clause-out_after c =
+    let a = c.args in
+    let put = c.put_close-n in
+    let is = (made (close a.p) _ time_bytes _ (close_short a.p) put.ensures.value put.ensures.out_after).1 in
+    let pass = c.pass in
+    rw (← is) pass.ensures.out_after
