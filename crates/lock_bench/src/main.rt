@@ -37,11 +37,12 @@ fn main(rt: HostRuntime) {
     let mut schedule = [0u64; ENTRIES];
     fill(&mut schedule);
     let mut state = begin();
-    // A proved loop has to end, and nothing says that the input does: it counts its turns down from a number that no run uses up.
-    let mut turns = u64::MAX;
-    while turns > 0 && !state.at_end {
+    // A proved loop has to end, and nothing says that the input does: it takes as many turns as no run uses up.
+    for _ in 0..u64::MAX {
+        if state.at_end {
+            break;
+        }
         state = read_some(rt.stdin(), state, &schedule);
-        turns -= 1;
     }
     let entries = state.entries;
     let accepted = state.accepted;

@@ -89,13 +89,11 @@ fn turns(
         at: scenario_text::put_header(out, 0),
         ended: false,
     };
-    // A proved loop has to end, and nothing says that the input does: it counts its turns down from a number that no run uses up.
-    let mut left = u64::MAX;
-    while 0 < left {
+    // A proved loop has to end, and nothing says that the input does: it takes as many turns as no run uses up.
+    for _ in 0..u64::MAX {
         if run.ended {
             return;
         }
-        left -= 1;
         run = turn(
             input, to, run, line, lens, ops, vals, schedule, rows, chunk, out,
         );

@@ -81,10 +81,8 @@ fn read_and_print(
 // Up to the end of the input, which is read once, so that at a terminal it is said once; or as far as there is room.
 fn read_file(mut input: Stdin, file: &mut [u8], chunk: &mut [u8]) -> Got {
     let mut n = 0;
-    // A proved loop has to end, and nothing says that the input does: it counts down from a number that no input uses up.
-    let mut left = u64::MAX;
-    while 0 < left {
-        left -= 1;
+    // A proved loop has to end, and nothing says that the input does: it takes as many turns as no input uses up.
+    for _ in 0..u64::MAX {
         let got = input.read(chunk);
         let more = got.unwrap_or(0);
         if more == 0 {

@@ -87,13 +87,11 @@ fn turns(
     requires in_bounds_2 { (64 ≤ length schedule.old) × (384 ≤ length rows.old) }
 {
     let mut run = begin(out);
-    // A proved loop has to end, and nothing says that the input does: it counts its turns down from a number that no run uses up.
-    let mut left = u64::MAX;
-    while 0 < left {
+    // A proved loop has to end, and nothing says that the input does: it takes as many turns as no run uses up.
+    for _ in 0..u64::MAX {
         if run.ended {
             return;
         }
-        left -= 1;
         run = turn(
             input, to, run, line, lens, ops, vals, schedule, rows, chunk, out,
         );
