@@ -10,7 +10,11 @@ use program_chunks::Input;
 use program_intake::{Came, Intake};
 use scenario_read::Stop;
 use scenario_stages::Read;
-use std::io::{Stderr, Stdin, Stdout};
+use std::io::{ErrorKind, Stderr, Stdin, Stdout};
+use std::process::ExitCode;
+
+// The status that a shell gives a program which is ended since nobody reads its output any more.
+const UNREAD: u8 = 141;
 
 // What is handed from turn to turn, besides the lists.
 #[derive(Clone, Copy)]
@@ -22,14 +26,16 @@ struct Run {
     at: usize,
     // All is written, or no more can be.
     ended: bool,
+    // No more can be, since whoever read it has gone.
+    unread: bool,
 }
 
 // How many bytes of text wait, once there is room for more.
 #[derive(Clone, Copy)]
 struct Room {
     at: usize,
-    // Some could not be written.
-    lost: bool,
+    // What became of those that waited before.
+    before: Written,
 }
 
 // Where the trace goes, and where it is said what is wrong.
@@ -39,7 +45,17 @@ struct Outputs {
     err: Stderr,
 }
 
-fn main(rt: HostRuntime) {
+// What became of text that was to be written.
+#[derive(Clone, Copy)]
+enum Written {
+    Whole,
+    // Some of it could not be written.
+    Cut,
+    // Whoever read it has gone.
+    Unread,
+}
+
+fn main(rt: HostRuntime) -> ExitCode {
     let to = Outputs {
         out: rt.stdout(),
         err: rt.stderr(),
@@ -52,7 +68,7 @@ fn main(rt: HostRuntime) {
     let mut rows = [0; 1536];
     let mut chunk = io::large_buffer();
     let mut out = io::large_buffer();
-    turns(
+    let unread = turns(
         rt.stdin(),
         to,
         &mut line,
@@ -64,6 +80,7 @@ fn main(rt: HostRuntime) {
         &mut chunk,
         &mut out,
     );
+    status(unread)
 }
 
 // The text of as many rows as the list holds, and of a refusal, has room in the other; and the lists have the places that the reader needs.
@@ -78,7 +95,7 @@ fn turns(
     rows: &mut [u64],
     chunk: &mut [u8],
     out: &mut [u8],
-)
+) -> bool
     requires rows_in_bounds { 148 * (length rows.old / 6) + 51 ≤ length out.old }
     requires in_bounds { (16 ≤ length lens.old) × (1024 ≤ length ops.old) × (1024 ≤ length vals.old) }
     requires in_bounds_2 { (64 ≤ length schedule.old) × (384 ≤ length rows.old) }
@@ -88,16 +105,18 @@ fn turns(
         row: 0,
         at: scenario_text::put_header(out, 0),
         ended: false,
+        unread: false,
     };
     // A proved loop has to end, and nothing says that the input does: it takes as many turns as no run uses up.
     for _ in 0..u64::MAX {
         if run.ended {
-            return;
+            return run.unread;
         }
         run = turn(
             input, to, run, line, lens, ops, vals, schedule, rows, chunk, out,
         );
     }
+    run.unread
 }
 
 // More rows, and their text behind what waits.
@@ -125,7 +144,7 @@ fn turn(
     let end = put_more(run.row, rows, n, stop, out, room.at);
     let row = std::num::wrapping_add_u64(run.row, n as u64);
     let len = refused_length(intake, got, came, chunk);
-    after(to, row, came, room.lost, len, line, out, end)
+    after(to, row, came, room.before, len, line, out, end)
 }
 
 // What waits is written where n rows and a refusal have no room behind it.
@@ -135,11 +154,14 @@ fn make_room(to: Outputs, n: usize, out: &[u8], at: usize) -> Room
     ensures n_in_bounds { result.at + (148 * n + 51) ≤ length out.now }
 {
     if scenario_prints::has_room(out.len(), at, n) {
-        return Room { at, lost: false };
+        return Room {
+            at,
+            before: Written::Whole,
+        };
     }
     Room {
         at: 0,
-        lost: !write(to, program_chunks::front(out, at)),
+        before: write(to, program_chunks::front(out, at)),
     }
 }
 
@@ -178,7 +200,7 @@ fn after(
     to: Outputs,
     row: u64,
     came: Came,
-    lost: bool,
+    before: Written,
     len: usize,
     line: &[u8; 80],
     out: &mut [u8],
@@ -191,7 +213,12 @@ fn after(
     let stop = came.stop;
     let ends = input.failed || scenario_read::ends(stop);
     let wait = scenario_read::is_full(stop) && !ends;
-    let done = !lost && (wait || write(to, program_chunks::front(out, at)));
+    let written = if wait {
+        before
+    } else {
+        write_on(to, before, program_chunks::front(out, at))
+    };
+    let done = is_whole(written);
     tell(to.err, done, stop, read, len, line, out);
     if input.failed {
         let _ = to.err.write_all(
@@ -203,17 +230,45 @@ fn after(
         row,
         at: if wait { at } else { 0 },
         ended: ends || !done,
+        unread: matches!(written, Written::Unread),
     }
 }
 
-fn write(to: Outputs, text: &[u8]) -> bool {
-    let done = to.out.write_all(text).is_ok();
-    if !done {
-        let _ = to.err.write_all(
-            b"trestlecat: the trace could not be written to its end, so it must not be used: make room, or let the reader take all of it\n",
-        );
+// Behind what was written before.
+fn write_on(to: Outputs, before: Written, text: &[u8]) -> Written {
+    if !is_whole(before) {
+        return before;
     }
-    done
+    write(to, text)
+}
+
+fn write(to: Outputs, text: &[u8]) -> Written {
+    match to.out.write_all(text) {
+        Ok(()) => Written::Whole,
+        Err(why) => cut(to.err, why.kind()),
+    }
+}
+
+// Whoever has gone does not want to hear of it.
+fn cut(err: Stderr, why: ErrorKind) -> Written {
+    if matches!(why, ErrorKind::BrokenPipe) {
+        return Written::Unread;
+    }
+    let _ = err.write_all(
+        b"trestlecat: the trace could not be written to its end, so it must not be used: make room, or let the reader take all of it\n",
+    );
+    Written::Cut
+}
+
+fn is_whole(written: Written) -> bool {
+    matches!(written, Written::Whole)
+}
+
+fn status(unread: bool) -> ExitCode {
+    if unread {
+        return ExitCode::from(UNREAD);
+    }
+    ExitCode::SUCCESS
 }
 
 // The refusal, where there is one and all is written, and what is known of its line.

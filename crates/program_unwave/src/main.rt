@@ -4,12 +4,16 @@
 
 ghost use Rattle.std.specs.Prelude.{◌≡◌, length};
 
-use std::io::{Read, Stderr, Stdin, Stdout};
+use std::io::{ErrorKind, Read, Stderr, Stdin, Stdout};
+use std::process::ExitCode;
 use vcd::{Answer, Signals};
 use vcd_code::NO_ROOM;
 
 // So many bytes of text are written at once; behind them the list has room for a line.
 const FULL: usize = 50000;
+
+// The status that a shell gives a program which is ended since nobody reads its output any more.
+const UNREAD: u8 = 141;
 
 // What was read: so many bytes; whether reading failed; whether more came than there is room for.
 #[derive(Clone, Copy)]
@@ -26,7 +30,17 @@ struct Outputs {
     err: Stderr,
 }
 
-fn main(rt: HostRuntime) {
+// What became of text that was to be written.
+#[derive(Clone, Copy)]
+enum Written {
+    Whole,
+    // Some of it could not be written.
+    Cut,
+    // Whoever read it has gone.
+    Unread,
+}
+
+fn main(rt: HostRuntime) -> ExitCode {
     let to = Outputs {
         out: rt.stdout(),
         err: rt.stderr(),
@@ -35,7 +49,7 @@ fn main(rt: HostRuntime) {
     let mut chunk = io::large_buffer();
     let mut signals = signals_room();
     let mut out = io::large_buffer();
-    read_and_print(
+    let written = read_and_print(
         rt.stdin(),
         to,
         &mut file,
@@ -43,6 +57,7 @@ fn main(rt: HostRuntime) {
         &mut signals,
         &mut out,
     );
+    status(matches!(written, Written::Unread))
 }
 
 // What the limits leave room for. The `ensures` give only the lengths, which lending the arrays needs.
@@ -66,16 +81,16 @@ fn read_and_print(
     chunk: &mut [u8],
     signals: &mut [u64],
     out: &mut [u8],
-) {
+) -> Written {
     let got = read_file(input, file, chunk);
     if got.failed {
         let _ = to.err.write_all(
             b"trestlecat: the input could not be read to its end, so nothing is printed: give a file or a pipe that can be read\n",
         );
-        return;
+        return Written::Whole;
     }
     let answer = read_signals(program_chunks::front(file, got.n), got.too_large, signals);
-    print(to, answer, signals, out);
+    print(to, answer, signals, out)
 }
 
 // Up to the end of the input, which is read once, so that at a terminal it is said once; or as far as there is room.
@@ -115,20 +130,21 @@ fn read_signals(file: &[u8], too_large: bool, signals: &mut [u64]) -> Answer {
     vcd_code::read::read(file, signals)
 }
 
-fn print(to: Outputs, answer: Answer, signals: &[u64], out: &mut [u8]) {
+fn print(to: Outputs, answer: Answer, signals: &[u64], out: &mut [u8]) -> Written {
     if answer.refused != 0 {
         let n = scenario_text::put_refusal(out, 0, answer.refused, 0);
         let text = program_chunks::front(out, n);
         // whoever started it makes words of this, as of what the other programs tell
-        if write(to, text) {
+        let written = write(to, text);
+        if is_whole(written) {
             let _ = to.err.write_all(text);
         }
-        return;
+        return written;
     }
-    print_lines(to, signals, answer.n, out);
+    print_lines(to, signals, answer.n, out)
 }
 
-fn print_lines(to: Outputs, signals: &[u64], rows: u64, out: &mut [u8]) {
+fn print_lines(to: Outputs, signals: &[u64], rows: u64, out: &mut [u8]) -> Written {
     let mut at = scenario_text::put_bytes(out, 0, b"time,exc,rc\r\n");
     let mut t = 0;
     while t < signals.len() {
@@ -137,14 +153,15 @@ fn print_lines(to: Outputs, signals: &[u64], rows: u64, out: &mut [u8]) {
         }
         at = put_line(signals, t, out, at);
         if FULL < at {
-            if !write(to, program_chunks::front(out, at)) {
-                return;
+            let written = write(to, program_chunks::front(out, at));
+            if !is_whole(written) {
+                return written;
             }
             at = 0;
         }
         t += 1;
     }
-    write(to, program_chunks::front(out, at));
+    write(to, program_chunks::front(out, at))
 }
 
 fn put_line(signals: &[u64], t: usize, out: &mut [u8], at: usize) -> usize {
@@ -169,12 +186,31 @@ fn put_field(out: &mut [u8], at: usize, v: u64, end: &[u8]) -> usize {
     scenario_text::put_bytes(out, n, end)
 }
 
-fn write(to: Outputs, text: &[u8]) -> bool {
-    let done = to.out.write_all(text).is_ok();
-    if !done {
-        let _ = to.err.write_all(
-            b"trestlecat: the signals could not be written to their end, so they must not be used: make room, or let the reader take all of them\n",
-        );
+fn write(to: Outputs, text: &[u8]) -> Written {
+    match to.out.write_all(text) {
+        Ok(()) => Written::Whole,
+        Err(why) => cut(to.err, why.kind()),
     }
-    done
+}
+
+// Whoever has gone does not want to hear of it.
+fn cut(err: Stderr, why: ErrorKind) -> Written {
+    if matches!(why, ErrorKind::BrokenPipe) {
+        return Written::Unread;
+    }
+    let _ = err.write_all(
+        b"trestlecat: the signals could not be written to their end, so they must not be used: make room, or let the reader take all of them\n",
+    );
+    Written::Cut
+}
+
+fn is_whole(written: Written) -> bool {
+    matches!(written, Written::Whole)
+}
+
+fn status(unread: bool) -> ExitCode {
+    if unread {
+        return ExitCode::from(UNREAD);
+    }
+    ExitCode::SUCCESS
 }

@@ -8,7 +8,11 @@ ghost use Rattle.program_why.specs.Answered.{answered};
 
 use program_intake::{Came, Intake};
 use scenario_read::Stop;
-use std::io::{Stderr, Stdin, Stdout};
+use std::io::{ErrorKind, Stderr, Stdin, Stdout};
+use std::process::ExitCode;
+
+// The status that a shell gives a program which is ended since nobody reads its output any more.
+const UNREAD: u8 = 141;
 
 // What is handed from turn to turn, besides the lists.
 #[derive(Clone, Copy)]
@@ -16,6 +20,8 @@ struct Run {
     intake: Intake,
     // All is written, or no more can be.
     ended: bool,
+    // No more can be, since whoever read it has gone.
+    unread: bool,
 }
 
 // Where the answers go, and where it is said what is wrong.
@@ -25,7 +31,17 @@ struct Outputs {
     err: Stderr,
 }
 
-fn main(rt: HostRuntime) {
+// What became of text that was to be written.
+#[derive(Clone, Copy)]
+enum Written {
+    Whole,
+    // Some of it could not be written.
+    Cut,
+    // Whoever read it has gone.
+    Unread,
+}
+
+fn main(rt: HostRuntime) -> ExitCode {
     let to = Outputs {
         out: rt.stdout(),
         err: rt.stderr(),
@@ -38,7 +54,7 @@ fn main(rt: HostRuntime) {
     let mut rows = [0; 1536];
     let mut chunk = io::large_buffer();
     let mut out = io::large_buffer();
-    turns(
+    let unread = turns(
         rt.stdin(),
         to,
         &mut line,
@@ -50,6 +66,7 @@ fn main(rt: HostRuntime) {
         &mut chunk,
         &mut out,
     );
+    status(unread)
 }
 
 // The answers have room in the list, and the lists have the places that the reader needs.
@@ -64,23 +81,25 @@ fn turns(
     rows: &mut [u64],
     chunk: &mut [u8],
     out: &mut [u8],
-)
+) -> bool
     requires in_bounds { (16 ≤ length lens.old) × (1024 ≤ length ops.old) × (1024 ≤ length vals.old) }
     requires in_bounds_2 { (64 ≤ length schedule.old) × (384 ≤ length rows.old) × (1386 ≤ length out.old) }
 {
     let mut run = Run {
         intake: program_intake::begin(),
         ended: false,
+        unread: false,
     };
     // A proved loop has to end, and nothing says that the input does: it takes as many turns as no run uses up.
     for _ in 0..u64::MAX {
         if run.ended {
-            return;
+            return run.unread;
         }
         run = turn(
             input, to, run, line, lens, ops, vals, schedule, rows, chunk, out,
         );
     }
+    run.unread
 }
 
 // The rows are not wanted: it is asked of what they leave.
@@ -113,7 +132,7 @@ fn after(to: Outputs, came: Came, lens: &[u64], ops: &[u64], vals: &[u64], out: 
     let input = intake.input;
     let stop = came.stop;
     let ends = scenario_read::ends(stop);
-    answer(to, ends, came, lens, ops, vals, out);
+    let written = answer(to, ends, came, lens, ops, vals, out);
     if input.failed && !ends {
         let _ = to.err.write_all(
             b"trestlecat: the input could not be read to its end, so nothing is answered: give a file or a pipe that can be read\n",
@@ -122,10 +141,11 @@ fn after(to: Outputs, came: Came, lens: &[u64], ops: &[u64], vals: &[u64], out: 
     Run {
         intake,
         ended: input.failed || ends,
+        unread: matches!(written, Written::Unread),
     }
 }
 
-// At the end of the scenario.
+// At the end of the scenario. What became of the answers.
 fn answer(
     to: Outputs,
     ends: bool,
@@ -134,23 +154,48 @@ fn answer(
     ops: &[u64],
     vals: &[u64],
     out: &mut [u8],
-)
+) -> Written
     requires { 1386 ≤ length out.old }
 {
     if !ends {
-        return;
+        return Written::Whole;
     }
     let stop = came.stop;
     let n = put_answers(came, lens, ops, vals, out);
-    let done = to.out.write_all(program_chunks::front(out, n)).is_ok();
-    if done && is_refused(stop) {
+    let written = write(to, program_chunks::front(out, n));
+    if is_whole(written) && is_refused(stop) {
         let _ = to.err.write_all(program_chunks::front(out, n));
     }
-    if !done {
-        let _ = to.err.write_all(
-            b"trestlecat: the answers could not be written to their end, so they must not be used: make room, or let the reader take all of them\n",
-        );
+    written
+}
+
+fn write(to: Outputs, text: &[u8]) -> Written {
+    match to.out.write_all(text) {
+        Ok(()) => Written::Whole,
+        Err(why) => cut(to.err, why.kind()),
     }
+}
+
+// Whoever has gone does not want to hear of it.
+fn cut(err: Stderr, why: ErrorKind) -> Written {
+    if matches!(why, ErrorKind::BrokenPipe) {
+        return Written::Unread;
+    }
+    let _ = err.write_all(
+        b"trestlecat: the answers could not be written to their end, so they must not be used: make room, or let the reader take all of them\n",
+    );
+    Written::Cut
+}
+
+fn is_whole(written: Written) -> bool {
+    matches!(written, Written::Whole)
+}
+
+fn status(unread: bool) -> ExitCode {
+    if unread {
+        return ExitCode::from(UNREAD);
+    }
+    ExitCode::SUCCESS
 }
 
 // No answer is lost, since there is room.
