@@ -1,10 +1,1 @@
-pub mod Plain
-pub mod Operands
-pub mod Locals
-pub mod Shape
-pub mod Lent
 pub mod Leaves
-pub mod U64
-pub mod U8
-pub mod Bool
-pub mod Cell

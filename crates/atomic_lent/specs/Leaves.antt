@@ -1,4 +1,4 @@
--- What a lent operation leaves in the permission, said of the definitions that the contracts cite: what `now p.exit` is there, and
+-- What a lent operation leaves in the permission, said of the definitions that the contracts cite: what `p.new` is there, and
 -- what the next operation with the same permission then answers.
 use Rattle.std.specs.Prelude.{ℕ, Bool, ◌≡◌, eqb}
 use Rattle.std.specs.Bool.{beq}

@@ -1,4 +1,1 @@
-pub mod Lending
-pub mod Whole
-pub mod Held
 pub mod Few

@@ -2,7 +2,7 @@
 -- sixteen records, all of them in the array; and where something is refused, the refusal is machine's, also past sixteen, and the array
 -- is put back as it was taken.
 use Prim.Native.Nat.{ℕ, ◌<◌, ◌≤◌}
-use mathlib.Core.Path.{◌≡◌, refl, ap, sym, ◌∙◌}
+use mathlib.Core.Path.{◌≡◌, refl, sym, ◌∙◌}
 use mathlib.Core.Bool.{Bool, true, false, ◌&&◌, not, cond, and-eq-true_iff}
 use mathlib.Core.List.{List, [], ◌∷◌, ◌++◌, append-nil}
 use native.Mathlib.Omega.{arith}
@@ -36,9 +36,6 @@ use Rattle.lock_lent.proofs.Fronts.{front_length, front_again, front_whole}
 
 -- ---- lists
 module _ (l : List Rec) where
-  pub taken_length : length (taken l) ≡ 16
-  taken_length = front_length (shared l) l (fresh 16) (omega arith) (omega (arith, length-replicate 16 unbegun)) ∙ length-replicate 16 unbegun
-
   -- nothing was changed
   back_taken : back l (taken l) ≡ l
   back_taken = front_whole (shared l) l (fresh 16) (omega arith)
@@ -65,9 +62,6 @@ emptied_length l = front_length (shared l) (fresh 16) l (omega (arith, length-re
 -- putting an array back into it is putting the array back into the list
 pub put_again : (l array : List Rec) → front (shared (emptied l)) array (emptied l) ≡ back l array
 put_again l array = rw (emptied_length l) (front_again (shared l) (fresh 16) array l (omega (arith, length-replicate 16 unbegun)))
-
-pub put_length : (l array : List Rec) → length array ≡ 16 → length (front (shared (emptied l)) array (emptied l)) ≡ length l
-put_length l array e = ap length (put_again l array) ∙ front_length (shared l) array l (omega (arith, e)) (omega arith)
 
 -- ---- the refusals
 module _ (s : Lent) (L : Lock) where

@@ -1,16 +1,4 @@
-pub mod Operands
-pub mod Locals
-pub mod Tail
-pub mod Lifetimes
-pub mod Again
-pub mod Frames
 pub mod Fronts
 pub mod AnyLength
-pub mod LentLaws
-pub mod Records
-pub mod Answers
-pub mod Walks
-pub mod Shape
-pub mod Shapes
-pub mod Lent
 pub mod PutBack
+pub mod LentLaws

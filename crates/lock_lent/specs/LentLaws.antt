@@ -6,14 +6,13 @@ use Rattle.machine.specs.Demands.{RefusedSetup as OfSetup}
 use Rattle.machine.specs.Names.{most_threads, unsound, row_words}
 use Rattle.machine.specs.Refusals.{lowest}
 use Rattle.machine.specs.Lists.{Lent, scripts_of, list_checks, beside}
-use Rattle.machine.specs.Setup.{setup_refusal, setup, setup_recs}
+use Rattle.machine.specs.Setup.{setup_refusal}
 use Rattle.machine.specs.Step.{step}
 use Rattle.machine.specs.Run.{words_of, run_refusal, run_lent}
 use Rattle.machine.specs.Drain.{drain_refusal, drain_lent}
 use Rattle.machine.specs.declared.Lock.{Lock}
 use Rattle.machine.specs.declared.Rec.{Rec}
 use Rattle.machine.specs.declared.Refusal.{Refusal}
-use Rattle.machine.specs.declared.Start.TheVariants.{Refused}
 use Rattle.lock_lent.specs.declared.run.LentRunReturn.{LentRunReturn}
 use Rattle.lock_lent.specs.declared.drain.LentDrainReturn.{LentDrainReturn}
 use Rattle.lock_lent.specs.Run.{ran_of, rest_lent, rest_lent_trace, step_lent}

@@ -36,13 +36,13 @@ OfDrain κs a r e =
 
 -- ---- that the contracts say it
 abbrev pub SetupCited : Type 2
-SetupCited = Says setup.ended (λ M. setup.clauses) OfSetup
+SetupCited = Says setup.ended (λ M 𝓤. setup.clauses) OfSetup
 
 abbrev pub RunCited : Type 2
-RunCited = Says run.ended (λ M. run.clauses) OfRun
+RunCited = Says run.ended (λ M 𝓤. run.clauses) OfRun
 
 abbrev pub RestCited : Type 2
-RestCited = Says rest.ended (λ M. rest.clauses) OfRest
+RestCited = Says rest.ended (λ M 𝓤. rest.clauses) OfRest
 
 abbrev pub DrainCited : Type 2
-DrainCited = Says drain.ended (λ M. drain.clauses) OfDrain
+DrainCited = Says drain.ended (λ M 𝓤. drain.clauses) OfDrain

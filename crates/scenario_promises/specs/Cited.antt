@@ -22,7 +22,7 @@ OfFeed P κs a r e =
     (world_of r.state r.standing line'.now lens'.now ops'.now vals'.now schedule'.now r.from rows'.now r.at)
 
 abbrev pub FeedSays : (List ℕ → Bool → World → World → Type 0) → Type 2
-FeedSays P = Says code.feed.ended (λ M. code.feed.clauses) (OfFeed P)
+FeedSays P = Says code.feed.ended (λ M 𝓤. code.feed.clauses) (OfFeed P)
 
 -- it is a call as it is defined
 abbrev pub Called : List ℕ → Bool → World → World → Type 0
@@ -82,16 +82,16 @@ RefusalKept = FeedSays StaysRefused
 
 -- ---- before the first call, and why one rests
 abbrev pub FreshCited : Type 2
-FreshCited = Says code.fresh.ended (λ M. code.fresh.clauses) (λ κs a r e. r ≡ fresh)
+FreshCited = Says code.fresh.ended (λ M 𝓤. code.fresh.clauses) (λ κs a r e. r ≡ fresh)
 
 abbrev pub StoppedCited : Type 2
 StoppedCited =
-    Says code.stopped.ended (λ M. code.stopped.clauses) (λ κs a r e. let (state, (room, (at, end))) = a in r ≡ stop_of state room at)
+    Says code.stopped.ended (λ M 𝓤. code.stopped.clauses) (λ κs a r e. let (state, (room, (at, end))) = a in r ≡ stop_of state room at)
 
 -- ---- the lines of chunks
 abbrev pub TakeLineCited : Type 2
 TakeLineCited =
-    Says take.ended (λ M. take.clauses) (λ κs a r e.
+    Says take.ended (λ M 𝓤. take.clauses) (λ κs a r e.
     let (line, (held, (chunk, (from, end)))) = a in
     let (line', (held', (chunk', (from', end')))) = e in
     let t = took_line (drop from chunk.now) line.now held in
@@ -99,7 +99,7 @@ TakeLineCited =
 
 abbrev pub FinishCited : Type 2
 FinishCited =
-    Says finish.ended (λ M. finish.clauses) (λ κs a r e.
+    Says finish.ended (λ M 𝓤. finish.clauses) (λ κs a r e.
     let (line, (held, end)) = a in
     let (line', (held', end')) = e in
     (r ≡ held_end held) × (line'.now ≡ line_end line.now held))

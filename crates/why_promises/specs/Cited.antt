@@ -9,15 +9,15 @@ use Rattle.why_promises.specs.Given.{ToldByValue, ToldOfList, NumbersGiven}
 
 abbrev pub WhyCited : Type 2
 WhyCited =
-    Says by_value.ended (λ M. by_value.clauses) (λ κs a r e.
+    Says by_value.ended (λ M 𝓤. by_value.clauses) (λ κs a r e.
     let (lens, (ops, (vals, (lock, (recs, (count, (thread, end))))))) = a in
     ToldByValue (lists lens.now ops.now vals.now) count lock recs thread r)
 
 abbrev pub WhyLentCited : Type 2
 WhyLentCited =
-    Says lent.ended (λ M. lent.clauses) (λ κs a r e.
+    Says lent.ended (λ M 𝓤. lent.clauses) (λ κs a r e.
     let (lens, (ops, (vals, (lock, (recs, (thread, end)))))) = a in
     ToldOfList (lists lens.now ops.now vals.now) lock recs.now thread r)
 
 abbrev pub NumbersCited : Type 2
-NumbersCited = Says numbers.ended (λ M. numbers.clauses) (λ κs a r e. let (told, end) = a in NumbersGiven told r)
+NumbersCited = Says numbers.ended (λ M 𝓤. numbers.clauses) (λ κs a r e. let (told, end) = a in NumbersGiven told r)

@@ -1,10 +1,14 @@
 -- `bits_ahead` meets its contract. The loop's invariant: the definition of the whole is that of the rest, from here on. The measure is what
 -- is left. Assumes nothing.
 use Prim.Native.Nat.{◌-◌}
-use mathlib.Core.Path.{sym, ◌∙◌}
+use mathlib.Core.Path.{refl, sym, ◌∙◌}
 use native.Mathlib.Omega.{arith}
-use Rattle.vcd_code.proofs.Gather.{bits_other, bits_full, bits_more, bits_over}
+use lib.ListN.{get_or}
+use Rattle.vcd_code.proofs.Gather.{bit_is, bits_other, bits_full, bits_more, bits_over}
 use Rattle.vcd_code.proofs.ahead.bits_ahead.Goals as goal
+
+pub loop-i-init : goal.loop-i-init
+loop-i-init c = (omega arith, refl)
 
 pub returns-then-not-is_bit : goal.returns-then-not-is_bit
 returns-then-not-is_bit c =
@@ -16,6 +20,18 @@ returns-then-v-ge-HALF c =
     let l = c.loop-i in
     let is = sym c.is_bit.ensures ∙ c.if-not-is_bit.false in
     sym (l.invariant.1 ∙ bits_full c.args.s.now l.i l.v (omega arith) is c.if-v-ge-HALF.true)
+
+pub value-requires : goal.value-requires
+value-requires c =
+    let l = c.loop-i in
+    let is = sym c.is_bit.ensures ∙ c.if-not-is_bit.false in
+    (bit_is (get_or c.args.s.now l.i 0) is).0
+
+pub overflow_add-v : goal.overflow_add-v
+overflow_add-v c =
+    let l = c.loop-i in
+    let is = sym c.is_bit.ensures ∙ c.if-not-is_bit.false in
+    omega (arith, bit_is (get_or c.args.s.now l.i 0) is, c.value.ensures, c.if-v-ge-HALF.false)
 
 pub loop-i-preserved : goal.loop-i-preserved
 loop-i-preserved c =

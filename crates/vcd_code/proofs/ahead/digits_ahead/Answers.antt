@@ -1,25 +1,26 @@
 -- `digits_ahead` meets its contract. The loop's invariant: the definition of the whole is that of the rest, from here on. The measure is what
 -- is left. Assumes nothing.
 use Prim.Native.Nat.{◌-◌}
-use mathlib.Core.Path.{sym, ◌∙◌}
+use mathlib.Core.Path.{refl, sym, ◌∙◌}
 use native.Mathlib.Omega.{arith}
 use Rattle.vcd_code.proofs.Gather.{digits_no, digits_is, digits_over}
 use Rattle.vcd_code.proofs.ahead.digits_ahead.Goals as goal
+
+pub loop-i-init : goal.loop-i-init
+loop-i-init c = (omega arith, refl)
 
 pub returns-in-No : goal.returns-in-No
 returns-in-No c =
     let l = c.loop-i in
     sym (l.invariant.1 ∙ digits_no c.args.s.now l.i l.v (omega arith) (sym c.one_more-m.ensures ∙ c.in-No.is))
 
+pub loop-i-preserved : goal.loop-i-preserved
+loop-i-preserved c =
+    let l = c.loop-i in
+    let m = c.m-1.given in
+    (omega arith, l.invariant.1 ∙ digits_is c.args.s.now l.i l.v m.0.0 (omega arith) (sym c.one_more-m.ensures ∙ m.1))
+
 pub returns : goal.returns
 returns c =
     let l = c.loop-i in
     sym (l.invariant.1 ∙ digits_over c.args.s.now l.i l.v c.loop-i-test.false)
-
--- OLD pub loop-i-preserved : goal.loop-i-preserved
--- OLD loop-i-preserved c =
--- OLD     let l = c.loop-i in
--- OLD     let m = c.m-1.given in
--- OLD     (omega arith, l.invariant.1 ∙ digits_is c.args.s.now l.i l.v m.0.0 (omega arith) (sym c.one_more-m.ensures ∙ m.1))
-pub loop-i-preserved : goal.loop-i-preserved
-loop-i-preserved c = ?

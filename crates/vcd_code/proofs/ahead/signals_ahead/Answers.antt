@@ -1,7 +1,10 @@
 -- `signals_ahead` meets its contract. Assumes nothing.
 use mathlib.Core.Path.{sym, ◌∙◌}
-use Rattle.vcd_code.proofs.Gather.{signals_with, signals_without}
+use Rattle.vcd_code.proofs.Gather.{bit_is, signals_with, signals_without}
 use Rattle.vcd_code.proofs.ahead.signals_ahead.Goals as goal
+
+pub value-exc-requires : goal.value-exc-requires
+value-exc-requires c = (bit_is _ (sym c.is_bit.ensures ∙ c.if-is_bit.true)).0
 
 pub returns-then-is_bit : goal.returns-then-is_bit
 returns-then-is_bit c =

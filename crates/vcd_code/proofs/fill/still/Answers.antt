@@ -1,10 +1,16 @@
 -- `still` meets its contract. The loop's invariant: storing here what is left is storing all at the start. The measure is what is left. Assumes nothing.
 use Prim.Native.Nat.{◌-◌}
-use mathlib.Core.Path.{sym, ◌∙◌}
+use mathlib.Core.Path.{refl, sym, ◌∙◌}
 use native.Mathlib.Omega.{arith}
 use lib.ListN.{length-set}
 use Rattle.vcd_code.proofs.Fills.{one_still, none_still, all_still}
 use Rattle.vcd_code.proofs.fill.still.Goals as goal
+
+pub loop-left-init : goal.loop-left-init
+loop-left-init c = (omega arith, refl, refl)
+
+pub bounds-out-p-in-loop-left : goal.bounds-out-p-in-loop-left
+bounds-out-p-in-loop-left c = omega (arith, length-set c.loop-left.out c.loop-left.p c.args.s.exc)
 
 pub loop-left-preserved : goal.loop-left-preserved
 loop-left-preserved c =

@@ -1,10 +1,13 @@
 -- `starts` meets its contract. The loop's invariant: the definition of the whole is that of the rest, from here on. The measure is what is
 -- left. Assumes nothing.
 use Prim.Native.Nat.{◌-◌}
-use mathlib.Core.Path.{sym, ◌∙◌}
+use mathlib.Core.Path.{refl, sym, ◌∙◌}
 use native.Mathlib.Omega.{arith}
 use Rattle.vcd_code.proofs.Gather.{starts_short, starts_other, starts_on, starts_over}
 use Rattle.vcd_code.proofs.read.starts.Goals as goal
+
+pub loop-i-init : goal.loop-i-init
+loop-i-init c = (omega arith, refl)
 
 pub returns-then-rest-i : goal.returns-then-rest-i
 returns-then-rest-i c =

@@ -2,8 +2,14 @@
 use Prim.Native.Nat.{◌-◌}
 use mathlib.Core.Path.{◌∙◌}
 use native.Mathlib.Omega.{arith}
-use Rattle.vcd_code.proofs.Passes.{inside, room_on, one_more, all_done}
+use Rattle.vcd_code.proofs.Passes.{begins, inside, room_on, one_more, all_done}
 use Rattle.vcd_code.proofs.read.store_rows.Goals as goal
+
+pub loop-at-init : goal.loop-at-init
+loop-at-init c =
+    let start = c in
+    let a = start.args in
+    begins a.first a.rest.now a.out.now start.requires
 
 pub overflow_sub-k : goal.overflow_sub-k
 overflow_sub-k c =

@@ -12,6 +12,12 @@ loop-k-init c =
     let a = c.args in
     (omega arith, refl, rows_begin a.trace.now a.out.now a.from a.storing (at_first a.s))
 
+pub pass_change-a-requires : goal.pass_change-a-requires
+pass_change-a-requires c = omega (arith, c.loop-k.invariant.1, c.loop-k-test.true)
+
+pub next_row-p-requires : goal.next_row-p-requires
+next_row-p-requires c = omega (arith, c.loop-k.invariant.1, c.loop-k-test.true)
+
 pub loop-k-preserved : goal.loop-k-preserved
 loop-k-preserved c =
     let a = c.args in

@@ -1,7 +1,16 @@
 -- `write` meets its contract. Assumes nothing.
 use mathlib.Core.Path.{sym, ◌∙◌}
-use Rattle.vcd_code.proofs.Written.{refused_trace, no_room_lem, whole}
+use Rattle.vcd_code.proofs.Written.{refused_trace, no_room_lem, some_room, whole, unstored}
 use Rattle.vcd_code.proofs.write.write.Goals as goal
+
+pub walk-first-requires : goal.walk-first-requires
+walk-first-requires c = unstored
+
+pub walk-requires : goal.walk-requires
+walk-requires c =
+    let a = c.args in
+    let right = sym c.is_wrong.ensures ∙ c.if-is_wrong.false in
+    λ e. some_room a.trace.now (record { exc = a.exc; rc = a.rc }) a.out.now _ _ right (c.walk-first.ensures.value, c.walk-first.ensures.out_after) c.if-first-eq0.true
 
 pub returns-then-is_wrong-clause-value : goal.returns-then-is_wrong-clause-value
 returns-then-is_wrong-clause-value c =

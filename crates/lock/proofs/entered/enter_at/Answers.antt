@@ -1,0 +1,12 @@
+-- `enter_at` meets its contract: a finished script is refused whatever stands in the lists, and else its words lie inside them.
+use Prim.Native.Nat.{◌-◌}
+use Rattle.machine.specs.Step.{busy_of}
+use Rattle.lock.specs.Entered.{entered_of}
+use Rattle.lock.proofs.Turn.{finished}
+use Rattle.lock.proofs.entered.enter_at.Goals as goal
+
+pub returns-then-len-rec : goal.returns-then-len-rec
+unfolding entered_of
+returns-then-len-rec c =
+    let a = c.args in
+    rw (finished a.lock a.rec a.i a.len (a.busy - busy_of a.rec) _ _ c.if-len-rec.true) c.left_alone.ensures
