@@ -50,10 +50,8 @@ fn main(rt: HostRuntime) {
 }
 
 fn fill(schedule: &mut [u64]) {
-    let mut k = 0;
-    while k < schedule.len() {
+    for k in 0..schedule.len() {
         schedule[k] = CYCLE[k % 10];
-        k += 1;
     }
 }
 
@@ -100,10 +98,8 @@ fn read_some(mut input: Stdin, state: State, schedule: &[u64]) -> State {
 
 fn rounds(state: State, n: usize, schedule: &[u64], trace: &mut [u64]) -> State {
     let mut now = state;
-    let mut left = n;
-    while 0 < left {
+    for _ in 0..n {
         now = round(now, schedule, trace);
-        left -= 1;
     }
     now
 }

@@ -88,11 +88,9 @@ fn records() -> [Rec; 16] {
 
 // Six words a line, and what is left on the last.
 fn print_words(to: Stdout, words: &[u64]) {
-    let mut i = 0;
-    while i < words.len() {
+    for i in 0..words.len() {
         let _ = to.print(words[i]);
-        i += 1;
-        print_end(to, i, words.len());
+        print_end(to, i + 1, words.len());
     }
 }
 
