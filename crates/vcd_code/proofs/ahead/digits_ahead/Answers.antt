@@ -14,13 +14,12 @@ returns-in-No c =
     let l = c.loop-i in
     sym (l.invariant.1 ∙ digits_no c.args.s.now l.i l.v (omega arith) (sym c.one_more-m.ensures ∙ c.in-No.is))
 
-pub loop-i-preserved : goal.loop-i-preserved
-loop-i-preserved c =
-    let l = c.loop-i in
-    let m = c.m-1.given in
-    (omega arith, l.invariant.1 ∙ digits_is c.args.s.now l.i l.v m.0.0 (omega arith) (sym c.one_more-m.ensures ∙ m.1))
-
 pub returns : goal.returns
 returns c =
     let l = c.loop-i in
     sym (l.invariant.1 ∙ digits_over c.args.s.now l.i l.v c.loop-i-test.false)
+
+pub loop-i-preserved : goal.loop-i-preserved
+loop-i-preserved c =
+    let l = c.loop-i in
+    (omega arith, l.invariant.1 ∙ digits_is c.args.s.now l.i l.v c.in-Is.x (omega arith) (sym c.one_more-m.ensures ∙ c.in-Is.is))

@@ -13,16 +13,16 @@ returns-then-n-eq0-clause-out_after c =
     let a = c.args in
     (not_opened a.file.now _ _ (c.signals_ahead-s.ensures ∙ rw c.behind.ensures) c.front_at-n.ensures c.if-n-eq0.true a.out.now).1
 
-pub returns-clause-value : goal.returns-clause-value
-returns-clause-value c =
-    let a = c.args in
-    let rest = c.behind-2.ensures in
-    (opened a.file.now _ _ (c.signals_ahead-s.ensures ∙ rw c.behind.ensures) c.front_at-n.ensures c.if-n-eq0.false a.out.now _ _
-    (rw (← rest) c.read_rows.ensures.value) (rw (← rest) c.read_rows.ensures.out_after)).0
-
 pub returns-clause-out_after : goal.returns-clause-out_after
 returns-clause-out_after c =
     let a = c.args in
     let rest = c.behind-2.ensures in
-    (opened a.file.now _ _ (c.signals_ahead-s.ensures ∙ rw c.behind.ensures) c.front_at-n.ensures c.if-n-eq0.false a.out.now _ _
+    (opened a.file.now _ _ (c.signals_ahead-s.ensures ∙ rw c.behind.ensures) c.front_at-n.ensures c.if-n-eq0.false a.out.now c.read_rows.new.out c.read_rows.result
     (rw (← rest) c.read_rows.ensures.value) (rw (← rest) c.read_rows.ensures.out_after)).1
+
+pub returns-clause-value : goal.returns-clause-value
+returns-clause-value c =
+    let a = c.args in
+    let rest = c.behind-2.ensures in
+    (opened a.file.now _ _ (c.signals_ahead-s.ensures ∙ rw c.behind.ensures) c.front_at-n.ensures c.if-n-eq0.false a.out.now c.read_rows.new.out c.read_rows.result
+    (rw (← rest) c.read_rows.ensures.value) (rw (← rest) c.read_rows.ensures.out_after)).0

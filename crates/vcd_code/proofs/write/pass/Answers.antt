@@ -5,7 +5,7 @@ use native.Mathlib.Omega.{arith}
 use lib.ListN.{length}
 use lib.Seq.{length-take-le}
 use borrow.Author.Tests.{leb-true}
-use Rattle.vcd_code.proofs.Walk.{placed, counted, unplaced}
+use Rattle.vcd_code.proofs.Walk.{unplaced}
 use Rattle.vcd_code.proofs.write.pass.Goals as goal
 
 pub slice_bounds-put_bytes-end : goal.slice_bounds-put_bytes-end
@@ -19,14 +19,6 @@ overflow_add-end c =
     let room = sym c.has_room.ensures ∙ c.if-has_room.true in
     omega (arith, leb-true (a.at + a.n) (length a.out.now) room)
 
-pub returns-then-storing-clause-value : goal.returns-then-storing-clause-value
-returns-then-storing-clause-value c =
-    let start = c in
-    let a = start.args in
-    let room = sym c.has_room.ensures ∙ c.if-has_room.true in
-    let put = c.put_bytes-stored in
-    rw c.if-storing.true (placed a.piece.now a.out.now a.n a.at start.requires _ room put.ensures.value)
-
 pub returns-then-storing-clause-out_after : goal.returns-then-storing-clause-out_after
 returns-then-storing-clause-out_after c =
     let start = c in
@@ -34,13 +26,6 @@ returns-then-storing-clause-out_after c =
     let room = sym c.has_room.ensures ∙ c.if-has_room.true in
     let put = c.put_bytes-stored in
     rw c.if-storing.true (put.ensures.out_after)
-
-pub returns-then-has_room-clause-value : goal.returns-then-has_room-clause-value
-returns-then-has_room-clause-value c =
-    let start = c in
-    let a = start.args in
-    let room = sym c.has_room.ensures ∙ c.if-has_room.true in
-    rw c.if-storing.false (counted a.piece.now a.out.now a.n a.at start.requires room)
 
 pub returns-then-has_room-clause-out_after : goal.returns-then-has_room-clause-out_after
 returns-then-has_room-clause-out_after c =

@@ -1,0 +1,23 @@
+-- `ask` meets its contract: the number of what setup answers. Assumes nothing.
+use Rattle.std.proofs.Common.{[], take, sym, ap, ◌∙◌, length-take-le}
+use Rattle.machine.specs.Lists.{lists}
+use Rattle.lock.specs.declared.setup.Begun.{Begun}
+use Rattle.scenario_stages.proofs.Asks.{start_no, answered}
+use Rattle.scenario_stages.proofs.ask.Goals as goal
+
+pub slice_bounds-setup-end : goal.slice_bounds-setup-end
+slice_bounds-setup-end c =
+    let a = c.args in
+    sym (length-take-le a.threads a.none.now c.requires)
+
+pub returns-in-Made : goal.returns-in-Made
+returns-in-Made c =
+    let a = c.args in
+    ap start_no (sym c.in-Made.is) ∙ ap (λ (b : Begun). start_no b.start) c.setup-begun.ensures
+    ∙ answered a.pred a.top a.first (lists (take a.threads a.none.now) [] []) a.threads
+
+pub returns-in-Refused : goal.returns-in-Refused
+returns-in-Refused c =
+    let a = c.args in
+    ap start_no (sym c.in-Refused.is) ∙ ap (λ (b : Begun). start_no b.start) c.setup-begun.ensures
+    ∙ answered a.pred a.top a.first (lists (take a.threads a.none.now) [] []) a.threads
