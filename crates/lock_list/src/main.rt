@@ -147,13 +147,11 @@ fn agrees_with(line: &[u64], p: Parts, given: Given, is_lent: bool, trace: &mut 
 
 // The trace list as it is before the call.
 fn load(trace: &mut [u64], before: &[u64]) {
-    let mut i = 0;
-    while i < before.len() {
+    for i in 0..before.len() {
         if i >= trace.len() {
             return;
         }
         trace[i] = before[i];
-        i += 1;
     }
 }
 
@@ -543,10 +541,8 @@ fn lock_of(numbers: &[u64], pred: Pred, cell: Content) -> Lock {
 // Records that the list lacks are Idle, with 0 for each number.
 fn recs_of(numbers: &[u64]) -> [Rec; 16] {
     let mut recs = [lock_words::plain(0, Place::Idle); 16];
-    let mut i = 0;
-    while i < MOST {
+    for i in 0..MOST {
         recs[i] = rec_of(rec_part(numbers, i));
-        i += 1;
     }
     recs
 }
@@ -583,13 +579,11 @@ fn place_of(number: u64) -> Place {
 
 // Whether the records are those of the list, as far as both have them.
 fn are_records(recs: [Rec; 16], numbers: &[u64]) -> bool {
-    let mut i = 0;
-    while i < MOST {
+    for i in 0..MOST {
         let rec = recs[i];
         if !is_record(rec, rec_part(numbers, i)) {
             return false;
         }
-        i += 1;
     }
     true
 }

@@ -229,8 +229,7 @@ fn drain(
     if !over || !is_whole(before) {
         return before;
     }
-    let state = intake.state;
-    let read = state.read;
+    let read = intake.state.read;
     let standing = program_intake::standing_of(intake);
     let lock = standing.lock;
     let recs = standing.recs;
@@ -245,8 +244,7 @@ fn drain(
     );
     let why = answer.refusal;
     if why.number != NONE {
-        let n = scenario_text::put_refusal(out, 0, why.number, 0);
-        let _ = to.err.write_all(program_chunks::front(out, n));
+        say_refused(to.err, why.number, out);
         return before;
     }
     let written = write_lines(to, within, order, answer.n, out);
@@ -259,8 +257,7 @@ fn drain(
 // A run line for each of the first n entries, on lines of their own.
 fn write_lines(to: Outputs, within: bool, order: &[u64], n: u64, out: &mut [u8]) -> Written {
     let mut at = put_break(within, n, out);
-    let mut i = 0;
-    while i < order.len() {
+    for i in 0..order.len() {
         if n <= i as u64 {
             break;
         }
@@ -272,7 +269,6 @@ fn write_lines(to: Outputs, within: bool, order: &[u64], n: u64, out: &mut [u8])
             }
             at = 0;
         }
-        i += 1;
     }
     write(to, program_chunks::front(out, at))
 }
@@ -288,6 +284,11 @@ fn put_line(thread: u64, out: &mut [u8], at: usize) -> usize {
     let n = scenario_text::put_bytes(out, at, b"run,");
     let m = scenario_text::put_number(out, n, thread);
     scenario_text::put_bytes(out, m, b",1,0\r\n")
+}
+
+fn say_refused(err: Stderr, number: u64, out: &mut [u8]) {
+    let n = scenario_text::put_refusal(out, 0, number, 0);
+    let _ = err.write_all(program_chunks::front(out, n));
 }
 
 fn say_drained(err: Stderr, entries: u64, bound: u64, out: &mut [u8]) {

@@ -146,8 +146,7 @@ fn print(to: Outputs, answer: Answer, signals: &[u64], out: &mut [u8]) -> Writte
 
 fn print_lines(to: Outputs, signals: &[u64], rows: u64, out: &mut [u8]) -> Written {
     let mut at = scenario_text::put_bytes(out, 0, b"time,exc,rc\r\n");
-    let mut t = 0;
-    while t < signals.len() {
+    for t in 0..signals.len() {
         if rows < t as u64 {
             break;
         }
@@ -159,7 +158,6 @@ fn print_lines(to: Outputs, signals: &[u64], rows: u64, out: &mut [u8]) -> Writt
             }
             at = 0;
         }
-        t += 1;
     }
     write(to, program_chunks::front(out, at))
 }
