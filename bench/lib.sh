@@ -1,10 +1,15 @@
-# What the measurements share: how a C program is built for x86-64, and how two programs are timed.
+# What the measurements share: how ours and a C program are built, and how two programs are timed.
 . tools/kit.sh
 mkdir -p target/bench
 
 fail() {
     echo "bench: $1" >&2
     exit 1
+}
+
+# build PROGRAM: it is proved and built, as crates/PROGRAM/out/PROGRAM. rt runs it then, on nothing.
+build() {
+    (cd "crates/$1" && rt run </dev/null >/dev/null 2>&1) || fail "$1 is not proved: run rt check in crates/$1"
 }
 
 # build_c FILE.c PROGRAM: with the compiler, the linker and the C library that the kit builds its own programs with

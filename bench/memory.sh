@@ -1,8 +1,7 @@
 #!/bin/sh
 # Shows that memory does not grow with the input: scenarios of so many bytes, a run line an entry, go through a pipe into our programs of run and
 # wave and into those in plain C, and the most memory that each held is printed. The input is made as it is read and stored nowhere.
-# That is VmHWM of /proc, taken when all but the end was read. Under the kit's emulator, where the machine is not x86-64, it is the memory of the
-# emulator with the program in it.
+# That is VmHWM of /proc, taken when all but the end was read.
 # usage: bench/memory.sh [BYTES...]   the default is 10^6 and 10^8 bytes
 set -eu
 cd "$(dirname "$0")/.."
@@ -12,11 +11,6 @@ cd "$(dirname "$0")/.."
 sizes=$*
 [ -r /proc/self/status ] || fail "no /proc, which tells the memory"
 set -- "$kit/lib/ld-linux-x86-64.so.2" --library-path "$kit/lib"
-where="without an emulator"
-if [ -x "$kit/bin/qemu-x86_64" ]; then
-    set -- "$kit/bin/qemu-x86_64" "$@"
-    where="under the emulator, whose memory it is"
-fi
 room=target/bench/memory
 rm -rf "$room"
 mkdir -p "$room"
@@ -52,14 +46,14 @@ peak() {
     cat "$room/peak"
 }
 
-echo "the most memory held, $where:"
+echo "the most memory held:"
 printf '%8s %12s %10s %10s %10s\n' program bytes entries "ours KB" "C KB"
 for name in run wave; do
-    rt check "program_$name" >/dev/null || fail "program_$name is not proved: run rt check program_$name"
+    build "program_$name"
     build_c "bench/$name.c" "target/bench/$name"
     for bytes in $sizes; do
         entries=$((3 + (bytes - opening) / line))
-        ours=$(peak "$name" "$entries" "$@" "target/bin/program_$name")
+        ours=$(peak "$name" "$entries" "$@" "crates/program_$name/out/program_$name")
         theirs=$(peak "$name" "$entries" "$@" "target/bench/$name")
         printf '%8s %12d %10d %10d %10d\n' "$name" $((opening + (entries - 3) * line)) "$entries" "$ours" "$theirs"
     done

@@ -1,6 +1,6 @@
 #!/bin/sh
-# Measures the command run: a scenario file in, its trace out, through our program and through plain C, both built for x86-64
-# and run the same way, in one run. Both must print the same bytes.
+# Measures the command run: a scenario file in, its trace out, through our program and through plain C, both built by the kit's
+# compiler and run the same way, in one run. Both must print the same bytes.
 # usage: bench/run.sh [ENTRIES...]   the default is 10^5 to 10^6 entries
 set -eu
 cd "$(dirname "$0")/.."

@@ -29,11 +29,11 @@ scenario() {
 # measure NAME SHAPE ENTRIES: our program of the command NAME and bench/NAME.c; what both print is left in target/bench/ours
 measure() {
     scenario "$2" "$3" >target/bench/scenario
-    run "target/bin/program_$1" <target/bench/scenario >target/bench/ours
+    run "crates/program_$1/out/program_$1" <target/bench/scenario >target/bench/ours
     run "target/bench/$1" <target/bench/scenario >target/bench/theirs
     cmp target/bench/ours target/bench/theirs >&2 || fail "the two print other bytes: compare target/bench/ours and target/bench/theirs"
     whole "$3" || fail "not a row for each entry in target/bench/ours"
-    race "target/bin/program_$1" "target/bench/$1" target/bench/scenario |
+    race "crates/program_$1/out/program_$1" "target/bench/$1" target/bench/scenario |
         awk -v s="$2" -v e="$3" '{ printf "%6s %10d %12.4f %12.4f %8.2f %16.0f\n", s, e, $1, $2, $1 / $2, e / $1 }'
 }
 
@@ -41,7 +41,7 @@ measure() {
 measure_all() {
     name=$1
     shift
-    rt check "program_$name" >/dev/null || fail "program_$name is not proved: run rt check program_$name"
+    build "program_$name"
     build_c "bench/$name.c" "target/bench/$name"
     printf '%6s %10s %12s %12s %8s %16s\n' lines entries "ours s" "C s" ratio "ours entries/s"
     for shape in long short full; do

@@ -1,6 +1,6 @@
 #!/bin/sh
-# Measures the waveform: a scenario file in, the waveform of its trace out, through our program and through plain C, both built for x86-64
-# and run the same way, in one run. Both must print the same bytes.
+# Measures the waveform: a scenario file in, the waveform of its trace out, through our program and through plain C, both built by the
+# kit's compiler and run the same way, in one run. Both must print the same bytes.
 # usage: bench/wave.sh [ENTRIES...]   the default is 10^5 to 10^6 entries
 set -eu
 cd "$(dirname "$0")/.."

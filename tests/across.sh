@@ -8,25 +8,39 @@ cd "$(dirname "$0")/.."
 [ $# -gt 0 ] || set -- tests/across/*.edit
 room=$(mktemp -d)
 trap 'rm -rf "$room"' EXIT
+trap 'exit 2' HUP INT TERM
 passed=0 failed=0
+
+# proved CRATE: it is, and each library below it. What a check here has kept, in another copy too, need not be proved again.
+proved() {
+    (cd "$room/tree/crates/$1" && rt check)
+}
+
+# all_proved CRATE..
+all_proved() {
+    for crate; do proved "$crate" || return; done
+}
+
+# refused CRATE: the libraries below it are proved, and it is not
+refused() {
+    status=0
+    proved "$1" >"$room/above" 2>&1 || status=$?
+    [ "$status" -eq 1 ] && grep -q '^logic=not-proved' "$room/above" && ! grep -q '^rt: the library .* did not build' "$room/above"
+}
 
 for edit in "$@"; do
     label=$(basename "$edit" .edit)
     above=$(sed -n 's/^refused: //p' "$edit")
     below=$(sed -n 's|^file: crates/\([^/]*\)/.*|\1|p' "$edit" | sort -u)
-    rm -rf "$room/tree"
-    mkdir "$room/tree"
-    cp -r crates crates.txt "$edit" "$room/tree"
-    # what is proved already need not be proved again
-    [ ! -d target ] || cp -r target "$room/tree"
-    if (cd "$room/tree" && git init -q && apply "$label.edit" && rt check $below) >"$room/below" 2>&1 &&
-        ! (cd "$room/tree" && rt check "$above") >"$room/above" 2>&1 &&
-        grep -q "^rt: $above NOT PROVED" "$room/above"; then
+    rm -rf "$room/tree" "$room/above"
+    copied "$room/tree"
+    cp "$edit" "$room/tree/edit"
+    if (cd "$room/tree" && apply edit) >"$room/below" 2>&1 && all_proved $below >>"$room/below" 2>&1 && refused "$above"; then
         echo "$label: proved in $below, refused by $above"
         passed=$((passed + 1))
     else
         echo "$label: NOT as it should be (proved in $below, refused by $above)"
-        cat "$room/below" "$room/above" 2>/dev/null | grep ': error\|NOT PROVED\|not once' | head -5
+        cat "$room/below" "$room/above" 2>/dev/null | grep ': error\|not-proved\|did not build\|not once' | head -5
         failed=$((failed + 1))
     fi
 done

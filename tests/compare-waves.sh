@@ -10,6 +10,8 @@
 # Its status is 0 where nothing differs. Files on which the two differ, up to twenty of each kind, are kept in target/compare-waves.
 set -eu
 cd "$(dirname "$0")/.."
+. tests/lib.sh
+. tools/kit.sh
 family=all every=1 workers=2 seed=1 files=20000
 while getopts f:e:w:s:n: option; do
     case $option in
@@ -26,9 +28,8 @@ fail() {
     exit 2
 }
 command -v rustc >/dev/null || fail "rustc is needed to build the programs in oracle/"
-for program in program_wave program_unwave; do
-    [ -x "target/bin/$program" ] || fail "no program target/bin/$program: build it first (rt check $program)"
-done
+wave=$(program program_wave) || exit 2
+unwave=$(program program_unwave) || exit 2
 folder=target/compare-waves
 rm -rf "$folder"
 mkdir -p "$folder"
@@ -48,12 +49,10 @@ cat >"$folder/ours" <<'END'
 "$@" 2>&1 | sed '/^read,/d'
 END
 chmod +x "$folder/second" "$folder/ours"
-. tools/kit.sh
 set -- "$kit/lib/ld-linux-x86-64.so.2" --library-path "$kit/lib"
-[ ! -x "$kit/bin/qemu-x86_64" ] || set -- "$kit/bin/qemu-x86_64" "$@"
 differ=0
 echo "wave, where rows are the lines of the waveform but one:"
-"$folder/scenarios" compare "$workers" "$every" "$family" "$folder" "$folder/second" "$folder/ours" "$@" target/bin/program_wave || differ=1
+"$folder/scenarios" compare "$workers" "$every" "$family" "$folder" "$folder/second" "$folder/ours" "$@" "$wave" || differ=1
 echo "unwave:"
-"$folder/vcd" compare "$workers" "$seed" "$files" "$folder" "$@" target/bin/program_unwave || differ=1
+"$folder/vcd" compare "$workers" "$seed" "$files" "$folder" "$@" "$unwave" || differ=1
 exit "$differ"

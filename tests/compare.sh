@@ -2,18 +2,19 @@
 # Compares a program with the second program, oracle/lock.rs, on every scenario file that oracle/scenarios.rs makes, byte for byte.
 # usage: tests/compare.sh [-d | -y] [-f FAMILY] [-e EVERY] [-w WORKERS] [PROGRAM [WORD...]]
 #   -d                      compares what `drain` prints, by program_drain and program_run in a pipe as the command has them
-#   -y                      compares what `why` prints; the program is target/bin/program_why where none is given. The files of plays and
-#                           triples end with all scripts at their end, so that every answer is 12 there
-#   PROGRAM and its words   a path from the repository's root; reads a scenario on standard input and prints its trace; target/bin/program_run where none is given. A program
-#                           under target/bin is run as rt runs it, under the kit's emulator where the machine is not x86-64
+#   -y                      compares what `why` prints, by program_why where no program is given. The files of plays and triples end with all
+#                           scripts at their end, so that every answer is 12 there
+#   PROGRAM and its words   a path from the repository's root; reads a scenario on standard input and prints its trace. Where none is given it is
+#                           the command's program_run, the newer one of that which is proved and that which is built without proofs
 #   -f FAMILY               takes one family of files only, as `scenarios.rs` names them (all)
 #   -e EVERY                takes every EVERY-th file of each family only (1, which is 100,645 files)
 #   -w WORKERS              so many files at a time (2)
-# Each file costs two processes, about 23 ms of processor time under the emulator (measured with the plain C runner in the program's
-# place): all of them 19 minutes on two cores.
+# Each file costs two processes.
 # Its status is 0 where nothing differs. Files on which the two differ, up to twenty of each family, are kept in target/compare.
 set -eu
 cd "$(dirname "$0")/.."
+. tests/lib.sh
+. tools/kit.sh
 family=all
 word=run
 every=1
@@ -30,15 +31,17 @@ while getopts dyf:e:w: option; do
 done
 shift $((OPTIND - 1))
 # The pipe that drain needs is made below, of program_run and another.
-case $word in
-why) program=target/bin/program_why ;;
-*) program=target/bin/program_run ;;
-esac
-[ $# -gt 0 ] || set -- "$program"
+if [ $# -eq 0 ]; then
+    case $word in
+    why) program=$(program program_why) || exit 2 ;;
+    *) program=$(program program_run) || exit 2 ;;
+    esac
+    set -- "$program"
+fi
 case $1 in
 */*)
     [ -x "$1" ] || {
-        echo "compare: no program $1: build it first (rt check NAME builds target/bin/NAME)" >&2
+        echo "compare: no program $1: build it first" >&2
         exit 2
     }
     ;;
@@ -59,21 +62,18 @@ if [ "$word" != run ]; then
     chmod +x "$second"
 fi
 if [ "$word" = drain ]; then
-    cat >target/compare/drain <<'END'
+    first=$(program program_drain) || exit 2
+    cat >target/compare/drain <<END
 #!/bin/sh
 # The last line is what program_drain says.
 . tools/kit.sh
-{ said=$({ run target/bin/program_drain 2>&3 4>&- | run target/bin/program_run 2>/dev/null >&4; } 3>&1); } 4>&1
-[ -z "$said" ] || printf '%s\n' "$said"
+{ said=\$({ run $first 2>&3 4>&- | run $1 2>/dev/null >&4; } 3>&1); } 4>&1
+[ -z "\$said" ] || printf '%s\n' "\$said"
 END
     chmod +x target/compare/drain
     set -- target/compare/drain
 fi
 case $1 in
-target/bin/*)
-    . tools/kit.sh
-    set -- "$kit/lib/ld-linux-x86-64.so.2" --library-path "$kit/lib" "$@"
-    [ ! -x "$kit/bin/qemu-x86_64" ] || set -- "$kit/bin/qemu-x86_64" "$@"
-    ;;
+*/program_*) set -- "$kit/lib/ld-linux-x86-64.so.2" --library-path "$kit/lib" "$@" ;;
 esac
 target/compare/scenarios compare "$workers" "$every" "$family" target/compare "$second" "$@"

@@ -35,12 +35,15 @@ applied() {
         }
         return stored[name]
     }
-    function ended() { if (edits && !pairs) print last ": it has no old: and new: pair" }
+    function ended() {
+        if (edits && !pairs) print last ": it has no old: and new: pair"
+        if (pairs && !changes && !wrong) print last ": it changes nothing"
+    }
     FNR == 1 {
         ended()
         split("", whole)
         edits++
-        pairs = wrong = 0
+        pairs = changes = wrong = 0
         file = old = ""
         last = FILENAME
         root = FILENAME
@@ -63,6 +66,7 @@ applied() {
         else {
             rest = substr(before, at + length(old))
             if (index(rest, old)) bad("more than once in " file ": " old)
+            if (old != new) changes = 1
             whole[file] = substr(before, 1, at - 1) new rest
         }
         old = ""

@@ -6,6 +6,23 @@ built() {
     ./trestlecat unwave examples/case-a.vcd >/dev/null 2>&1
 }
 
+# program NAME: the path of a program of the command, the newer one of that which is proved and that which is built without proofs
+program() {
+    built=$(ls -t "target/proved/$1" "target/quick/$1" 2>/dev/null | head -n 1)
+    [ -n "$built" ] || { echo "$1 is not built: './trestlecat prove' builds it, and so does its command, without proofs" >&2; return 1; }
+    echo "$built"
+}
+
+# copied FOLDER: the crates as they are, without what rt has made of them
+copied() {
+    for part in crates/*/*; do
+        case $part in */out) continue ;; esac
+        mkdir -p "$1/${part%/*}"
+        cp -R "$part" "$1/${part%/*}"
+    done
+    for file in crates.txt HANDLES; do [ ! -f "$file" ] || cp "$file" "$1"; done
+}
+
 # signals: what unwave prints for the waveform of the trace on standard input; both signals are 0 before the first row
 signals() {
     LC_ALL=C awk -F, '

@@ -10,6 +10,8 @@
 # run it, since it needs rustc.
 set -eu
 cd "$(dirname "$0")/.."
+. tests/lib.sh
+. tools/kit.sh
 every=1
 workers=2
 while getopts e:w: option; do
@@ -27,20 +29,18 @@ fail() {
     exit 2
 }
 command -v rustc >/dev/null || fail "rustc is needed to build the programs in oracle/"
-for program in program_run program_why program_wave; do
-    [ -x "target/bin/$program" ] || fail "no program target/bin/$program: build it first (rt check $program)"
-done
+run=$(program program_run) || exit 2
+why=$(program program_why) || exit 2
+wave=$(program program_wave) || exit 2
 folder=target/pipe
 rm -rf "$folder"
 mkdir -p "$folder/run" "$folder/why" "$folder/wave"
 for name in lock scenarios cut; do rustc -O --edition 2021 "oracle/$name.rs" -o "$folder/$name"; done
-. tools/kit.sh
 set -- "$kit/lib/ld-linux-x86-64.so.2" --library-path "$kit/lib"
-[ ! -x "$kit/bin/qemu-x86_64" ] || set -- "$kit/bin/qemu-x86_64" "$@"
 # The waveform of the whole file. It is started with the word run, as the second program is. The line of a refusal goes behind the waveform.
 cat >"$folder/whole" <<END
 #!/bin/sh
-exec $* target/bin/program_wave 2>&1
+exec $* $wave 2>&1
 END
 # What the second program answers for the whole file.
 cat >"$folder/answers" <<END
@@ -70,8 +70,8 @@ compare() {
 for chosen in $families; do
     nth=$((${chosen#*=} * every))
     family=${chosen%=*}
-    compare run "$nth" "$family" "$folder/lock" "$folder/cut" "$@" target/bin/program_run
-    compare why "$nth" "$family" "$folder/answers" "$folder/cut" "$@" target/bin/program_why
-    compare wave "$nth" "$family" "$folder/whole" "$folder/pieces" "$folder/cut" "$@" target/bin/program_wave
+    compare run "$nth" "$family" "$folder/lock" "$folder/cut" "$@" "$run"
+    compare why "$nth" "$family" "$folder/answers" "$folder/cut" "$@" "$why"
+    compare wave "$nth" "$family" "$folder/whole" "$folder/pieces" "$folder/cut" "$@" "$wave"
 done
 exit "$differ"

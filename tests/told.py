@@ -9,16 +9,22 @@ came before, and the bytes of the refused one. Its status is 0 where nothing dif
 import glob, os, random, subprocess, sys, time
 
 os.chdir(os.path.join(os.path.dirname(os.path.abspath(__file__)), ".."))
-KIT = subprocess.check_output(["sh", "-c", ". tools/kit.sh && echo $kit"], text=True).strip()
+
+
+def asked(words):
+    """What the shell's parts of the repository say."""
+    return subprocess.check_output(["sh", "-c", ". tools/kit.sh && . tests/lib.sh && " + words], text=True).strip()
+
+
+KIT = asked("echo $kit")
 START = [KIT + "/lib/ld-linux-x86-64.so.2", "--library-path", KIT + "/lib"]
-if os.path.exists(KIT + "/bin/qemu-x86_64"):
-    START.insert(0, KIT + "/bin/qemu-x86_64")
+PROGRAMS = {name: asked("program " + name) for name in ("program_run", "program_wave")}
 
 
 def said(program, pieces):
     """What a program prints, and what it says on standard error. It may end before all pieces are sent."""
     with subprocess.Popen(
-        START + ["target/bin/" + program], stdin=subprocess.PIPE, stdout=subprocess.PIPE, stderr=subprocess.PIPE
+        START + [PROGRAMS[program]], stdin=subprocess.PIPE, stdout=subprocess.PIPE, stderr=subprocess.PIPE
     ) as run:
         try:
             for piece in pieces[:-1]:

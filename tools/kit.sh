@@ -1,24 +1,32 @@
 # Where the kit is, and how a built program is run. The command at the root, the tests and the measurements share it.
-# It sets home, the kit's folder, and kit, the part of it for this machine that has the compiler's tools; both are empty without rt.
+# It sets home, the kit's folder, and kit, the part of it that has the compiler's tools; both are empty without rt.
 home= kit=
 if command -v rt >/dev/null; then
     home=$(dirname "$(dirname "$(readlink -f "$(command -v rt)")")")
     # rt may be called by another script: then rt itself is asked, which takes longer
-    [ -d "$home/on" ] || home=$(dirname "$(dirname "$(rt doc)")")
-    kit=$home/on/$(uname -m)/toolchain
+    [ -d "$home/toolchain" ] || home=$(dirname "$(rt doc)")
+    kit=$home/toolchain
 fi
 
-# run PROGRAM: as rt runs a built program, under the kit's emulator where the machine is not x86-64
+# run PROGRAM: with the loader and the C library that the kit builds programs with. So a file that is no program is refused, and no shell runs it.
 run() {
-    if [ -x "$kit/bin/qemu-x86_64" ]; then
-        "$kit/bin/qemu-x86_64" "$kit/lib/ld-linux-x86-64.so.2" --library-path "$kit/lib" "$@"
-    else
-        "$kit/lib/ld-linux-x86-64.so.2" --library-path "$kit/lib" "$@"
-    fi
+    "$kit/lib/ld-linux-x86-64.so.2" --library-path "$kit/lib" "$@"
 }
 
-# below CRATE..: these crates and all that they stand on, a line each, libraries before those that use them. The kit's own libraries are left out.
-# It is to be called in the folder of crates.txt.
+# The programs of the command.
+programs="program_run program_why program_drain program_wave program_unwave"
+
+# keep PROGRAM..: what rt has built becomes the command's, in target/proved: rt builds what is proved and nothing else, and may remove it later. Where
+# the text was changed after target/began was made, the text is newer.
+keep() {
+    for built; do
+        mkdir -p target/proved && cp "crates/$built/out/$built" "target/proved/$built.$$" &&
+            touch -r target/began "target/proved/$built.$$" && mv "target/proved/$built.$$" "target/proved/$built" || return
+    done
+} 2>/dev/null
+
+# below CRATE..: these crates and all that they stand on, a line each, libraries before those that use them, in the order in which rt builds them.
+# The kit's own libraries are left out. It is to be called in the folder of crates.txt.
 below() {
     LC_ALL=C awk -v wanted="$*" '
         function visit(name,    n, i, part) {

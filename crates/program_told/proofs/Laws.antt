@@ -8,7 +8,7 @@ use Rattle.program_told.specs.Laws.{CutAnywhere, AsTaken}
 pub cut_anywhere : CutAnywhere
 unfolding through
 cut_anywhere h [] b = refl
-cut_anywhere h (x ∷ a) b = cut_anywhere _ a b
+cut_anywhere h (x ∷ a) b = cut_anywhere (held_after (cond h.done unheld h) x) a b
 
 -- what is held after the bytes that were taken, and then after the others
 abbrev onward : List ℕ → Took → Held
