@@ -8,60 +8,65 @@
 ghost use Rattle.std.specs.Prelude.{◌≡◌, true};
 
 use atomic::{CellId, Count};
-use libc::STDIN_FILENO;
 use replay::numbers::Stored;
 use replay::reading::Reading;
 use replay::tally::Tally;
 use replay::{lists, numbers, reading, tally};
 use scenario_lines::Parsed;
 use scenario_lines::number::parse_number;
+use std::io::{Read, Stdin, Stdout};
 
-fn main() {
+fn main(rt: HostRuntime) {
+    let out = rt.stdout();
     let mut chunk = io::large_buffer();
     let mut line = io::large_buffer();
     let mut reading = reading::begin();
     let mut tally = tally::start();
-    // A proved loop has to end, and nothing says that the input does: it counts its turns down from a
-    // number that no run uses up.
-    let mut turns = u64::MAX;
-    while turns > 0 && !reading.over {
-        reading = read_on(&mut chunk, &mut line, reading);
-        tally = on_line(&line, reading, tally);
-        turns -= 1;
+    // A proved loop has to end, and nothing says that the input does: it takes as many turns as no run uses up.
+    for _ in 0..u64::MAX {
+        if reading.over {
+            break;
+        }
+        reading = read_on(rt.stdin(), &mut chunk, &mut line, reading);
+        tally = on_line(out, &line, reading, tally);
     }
-    report(reading, tally);
+    report(out, reading, tally);
 }
 
 // A chunk where the last one is used up, else bytes of it up to a line's end. A read that fails ends the list, and the number of rows then shows it.
-fn read_on(chunk: &mut [u8; 65536], line: &mut [u8; 65536], reading: Reading) -> Reading {
+fn read_on(
+    mut input: Stdin,
+    chunk: &mut [u8; 65536],
+    line: &mut [u8; 65536],
+    reading: Reading,
+) -> Reading {
     if !reading::is_used_up(reading) {
         return reading::take_line(line, chunk, reading);
     }
-    let got = libc::read(STDIN_FILENO, chunk);
-    let n = io::count(got, chunk);
+    let n = input.read(chunk).unwrap_or(0);
     reading::after_read(reading, n)
 }
 
 // The first line is the header, which is no row. Any other first line counts as one that differs.
 // A row is below 200 bytes, so that the front of a line that has no room is none.
-fn on_line(line: &[u8; 65536], reading: Reading, tally: Tally) -> Tally {
+fn on_line(out: Stdout, line: &[u8; 65536], reading: Reading, tally: Tally) -> Tally {
     let header = b"width,operation,atomic,permission,value,a,b,number,arm,got,left";
     if !reading.done {
         return tally;
     }
     let text = reading::text(line, reading);
     if tally.line > 1 {
-        return tally::count(tally, agrees(text));
+        return tally::count(out, tally, agrees(text));
     }
     if check::same(text, header) {
         return tally::pass(tally);
     }
-    tally::count(tally, false)
+    tally::count(out, tally, false)
 }
 
 // A last line with no break may be cut short, and counts as different.
-fn report(reading: Reading, tally: Tally) {
-    tally::report(tally::count_cut(tally, reading::is_cut(reading)));
+fn report(out: Stdout, reading: Reading, tally: Tally) {
+    tally::report(out, tally::count_cut(out, tally, reading::is_cut(reading)));
 }
 
 // A row of the list: read, replayed and compared. Its fields are the width (64, 8, or 1 for bool), the

@@ -10,11 +10,11 @@ use cell::inv::Made;
 use cell::pred::Named;
 use cell::value::{Content, Perm};
 use cell::{Answer, Refusal, inv, pred, value};
-use libc::STDIN_FILENO;
 use replay::numbers::Stored;
 use replay::reading::Reading;
 use replay::tally::Tally;
 use replay::{numbers, reading, tally};
+use std::io::{Read, Stdin, Stdout};
 
 #[derive(Clone, Copy)]
 struct State {
@@ -22,7 +22,8 @@ struct State {
     tally: Tally,
 }
 
-fn main() {
+fn main(rt: HostRuntime) {
+    let out = rt.stdout();
     let mut chunk = io::large_buffer();
     let mut line = io::large_buffer();
     let mut reading = reading::begin();
@@ -30,29 +31,34 @@ fn main() {
         cells: start_cells(),
         tally: tally::start(),
     };
-    // A proved loop has to end, and nothing says that the input does: it counts its turns down from a number that no run uses up.
-    let mut turns = u64::MAX;
-    while turns > 0 && !reading.over {
-        reading = read_on(&mut chunk, &mut line, reading);
-        state = on_line(&line, reading, state);
-        turns -= 1;
+    // A proved loop has to end, and nothing says that the input does: it takes as many turns as no run uses up.
+    for _ in 0..u64::MAX {
+        if reading.over {
+            break;
+        }
+        reading = read_on(rt.stdin(), &mut chunk, &mut line, reading);
+        state = on_line(out, &line, reading, state);
     }
     let tally = state.tally;
-    report(reading, tally);
+    report(out, reading, tally);
 }
 
 // A chunk where the last one is used up, else bytes of it up to a line's end. A read that fails ends the list, and the number of rows then shows it.
-fn read_on(chunk: &mut [u8; 65536], line: &mut [u8; 65536], reading: Reading) -> Reading {
+fn read_on(
+    mut input: Stdin,
+    chunk: &mut [u8; 65536],
+    line: &mut [u8; 65536],
+    reading: Reading,
+) -> Reading {
     if !reading::is_used_up(reading) {
         return reading::take_line(line, chunk, reading);
     }
-    let got = libc::read(STDIN_FILENO, chunk);
-    let n = io::count(got, chunk);
+    let n = input.read(chunk).unwrap_or(0);
     reading::after_read(reading, n)
 }
 
 // The first line is the header. A row in its place would be missing from the number of rows.
-fn on_line(line: &[u8; 65536], reading: Reading, state: State) -> State {
+fn on_line(out: Stdout, line: &[u8; 65536], reading: Reading, state: State) -> State {
     let cells = state.cells;
     let tally = state.tally;
     if !reading.done {
@@ -68,13 +74,13 @@ fn on_line(line: &[u8; 65536], reading: Reading, state: State) -> State {
     let left = after.cells;
     State {
         cells: left,
-        tally: tally::count(tally, after.is_equal),
+        tally: tally::count(out, tally, after.is_equal),
     }
 }
 
 // A last line with no break may be cut short, and counts as different.
-fn report(reading: Reading, tally: Tally) {
-    tally::report(tally::count_cut(tally, reading::is_cut(reading)));
+fn report(out: Stdout, reading: Reading, tally: Tally) {
+    tally::report(out, tally::count_cut(out, tally, reading::is_cut(reading)));
 }
 
 // A row of the list, replayed on the value cell or the InvCell and compared.

@@ -5,9 +5,9 @@
 use atomic::Count;
 use cell::pred::Pred;
 use cell::value::Content;
-use libc::{STDIN_FILENO, STDOUT_FILENO};
 use lock::run;
 use machine::{Lock, Mover, Place, Rec};
+use std::io::{Read, Stdin};
 
 // Nobody is served in it, and the state after it is the state before it.
 const CYCLE: [u64; 10] = [1, 1, 0, 0, 2, 0, 0, 1, 1, 2];
@@ -33,27 +33,25 @@ struct State {
     at_end: bool,
 }
 
-fn main() {
+fn main(rt: HostRuntime) {
     let mut schedule = [0u64; ENTRIES];
     fill(&mut schedule);
     let mut state = begin();
-    // A proved loop has to end, and nothing says that the input does: it counts its turns down from a number that no run uses up.
-    let mut turns = u64::MAX;
-    while turns > 0 && !state.at_end {
-        state = read_some(state, &schedule);
-        turns -= 1;
+    // A proved loop has to end, and nothing says that the input does: it takes as many turns as no run uses up.
+    for _ in 0..u64::MAX {
+        if state.at_end {
+            break;
+        }
+        state = read_some(rt.stdin(), state, &schedule);
     }
-    io::print_decimal(STDOUT_FILENO, state.entries);
-    io::write_all(STDOUT_FILENO, b" entries, accepted ");
-    io::print_decimal(STDOUT_FILENO, state.accepted);
-    io::write_all(STDOUT_FILENO, b"\n");
+    let entries = state.entries;
+    let accepted = state.accepted;
+    let _ = println!(rt; "{entries} entries, accepted {accepted}");
 }
 
 fn fill(schedule: &mut [u64]) {
-    let mut k = 0;
-    while k < schedule.len() {
+    for k in 0..schedule.len() {
         schedule[k] = CYCLE[k % 10];
-        k += 1;
     }
 }
 
@@ -88,10 +86,9 @@ fn begin() -> State {
 }
 
 // Reads once, and makes a round for each byte.
-fn read_some(state: State, schedule: &[u64]) -> State {
+fn read_some(mut input: Stdin, state: State, schedule: &[u64]) -> State {
     let mut chunk = io::large_buffer();
-    let got = libc::read(STDIN_FILENO, &mut chunk);
-    let n = io::count(got, &chunk);
+    let n = input.read(&mut chunk).unwrap_or(0);
     if n == 0 {
         return stop(state);
     }
@@ -101,10 +98,8 @@ fn read_some(state: State, schedule: &[u64]) -> State {
 
 fn rounds(state: State, n: usize, schedule: &[u64], trace: &mut [u64]) -> State {
     let mut now = state;
-    let mut left = n;
-    while 0 < left {
+    for _ in 0..n {
         now = round(now, schedule, trace);
-        left -= 1;
     }
     now
 }

@@ -5,12 +5,13 @@
 
 use atomic::Count;
 use cell::pred::Pred;
-use libc::STDOUT_FILENO;
 use machine::{Lock, Place, Rec, Refusal, Start};
+use std::io::Stdout;
 
 const THREADS: u64 = 3;
 
-fn main() {
+fn main(rt: HostRuntime) {
+    let to = rt.stdout();
     let lens = [2u64, 2, 2];
     let ops = [1u64, 3, 1, 3, 4, 5];
     let vals = [0u64; 6];
@@ -27,13 +28,13 @@ fn main() {
     let start = begun.start;
     let recs = begun.recs;
     match start {
-        Start::Made(lock) => replay(&lens, &ops, &vals, lock, recs),
-        Start::Refused(why) => refused(why),
+        Start::Made(lock) => replay(to, &lens, &ops, &vals, lock, recs),
+        Start::Refused(why) => refused(to, why),
     }
 }
 
 // After 0, 0, 2 the second piece, a cycle, comes back to the same state.
-fn replay(lens: &[u64], ops: &[u64], vals: &[u64], lock: Lock, recs: [Rec; 16]) {
+fn replay(to: Stdout, lens: &[u64], ops: &[u64], vals: &[u64], lock: Lock, recs: [Rec; 16]) {
     let mut trace = [99u64; 80];
     let first = [0u64, 0, 2];
     let one = lock_held::run(lens, ops, vals, lock, recs, THREADS, &first, 3, &mut trace);
@@ -43,36 +44,36 @@ fn replay(lens: &[u64], ops: &[u64], vals: &[u64], lock: Lock, recs: [Rec; 16]) 
     let two = lock_held::run_rest(
         lens, ops, vals, lock, recs, THREADS, &cycle, 10, one.n, &mut trace,
     );
-    print_words(&trace);
-    print_numbers(b"run", one.n, one.done);
-    print_numbers(b"run", two.n, two.done);
+    print_words(to, &trace);
+    print_numbers(to, "run", one.n, one.done);
+    print_numbers(to, "run", two.n, two.done);
     let lock = two.lock;
     let recs = two.recs;
-    finish(lens, ops, vals, lock, recs);
+    finish(to, lens, ops, vals, lock, recs);
 }
 
-fn finish(lens: &[u64], ops: &[u64], vals: &[u64], lock: Lock, recs: [Rec; 16]) {
+fn finish(to: Stdout, lens: &[u64], ops: &[u64], vals: &[u64], lock: Lock, recs: [Rec; 16]) {
     let left = lock_held::drain(lens, ops, vals, lock, recs, THREADS);
     let why = left.refusal;
-    print_numbers(b"drain", why.number, left.n);
-    order(lens, ops, vals, lock, recs);
+    print_numbers(to, "drain", why.number, left.n);
+    order(to, lens, ops, vals, lock, recs);
 }
 
 // The entries of that drain, from where it began, and a run of them.
-fn order(lens: &[u64], ops: &[u64], vals: &[u64], lock: Lock, recs: [Rec; 16]) {
+fn order(to: Stdout, lens: &[u64], ops: &[u64], vals: &[u64], lock: Lock, recs: [Rec; 16]) {
     let mut out = [99u64; 18];
     let asked = lock_order::drain_order(lens, ops, vals, lock, recs, THREADS, &mut out);
-    print_numbers(b"order", asked.n, asked.bound);
-    print_words(&out);
+    print_numbers(to, "order", asked.n, asked.bound);
+    print_words(to, &out);
     let mut trace = [99u64; 84];
     let ran = lock_held::run(
         lens, ops, vals, lock, recs, THREADS, &out, asked.n, &mut trace,
     );
-    print_numbers(b"run", ran.n, ran.done);
+    print_numbers(to, "run", ran.n, ran.done);
 }
 
-fn refused(why: Refusal) {
-    print_numbers(b"refused", why.number, why.thread);
+fn refused(to: Stdout, why: Refusal) {
+    print_numbers(to, "refused", why.number, why.thread);
 }
 
 // Records of any content: setup makes them anew.
@@ -86,29 +87,19 @@ fn records() -> [Rec; 16] {
 }
 
 // Six words a line, and what is left on the last.
-fn print_words(words: &[u64]) {
-    let mut i = 0;
-    while i < words.len() {
-        io::print_decimal(STDOUT_FILENO, words[i]);
-        i += 1;
-        print_end(i, words.len());
+fn print_words(to: Stdout, words: &[u64]) {
+    for i in 0..words.len() {
+        let _ = to.print(words[i]);
+        print_end(to, i + 1, words.len());
     }
 }
 
 // After the i-th word of n.
-fn print_end(i: usize, n: usize) {
-    if i % 6 == 0 || i == n {
-        io::write_all(STDOUT_FILENO, b"\n");
-    } else {
-        io::write_all(STDOUT_FILENO, b",");
-    }
+fn print_end(to: Stdout, i: usize, n: usize) {
+    let end = if i % 6 == 0 || i == n { "\n" } else { "," };
+    let _ = to.print(end);
 }
 
-fn print_numbers(name: &[u8], a: u64, b: u64) {
-    io::write_all(STDOUT_FILENO, name);
-    io::write_all(STDOUT_FILENO, b",");
-    io::print_decimal(STDOUT_FILENO, a);
-    io::write_all(STDOUT_FILENO, b",");
-    io::print_decimal(STDOUT_FILENO, b);
-    io::write_all(STDOUT_FILENO, b"\n");
+fn print_numbers(to: Stdout, name: &str, a: u64, b: u64) {
+    let _ = println!(to; "{name},{a},{b}");
 }

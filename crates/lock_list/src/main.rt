@@ -10,7 +10,6 @@ use atomic::Count;
 use cell::pred::{Named, Pred};
 use cell::value::Content;
 use cell::{pred, value};
-use libc::STDIN_FILENO;
 use lock::drain::DrainReturn;
 use lock::run::RunReturn;
 use lock::setup::Begun;
@@ -22,34 +21,41 @@ use replay::numbers::Stored;
 use replay::reading::Reading;
 use replay::tally::{Tally, Verdict};
 use replay::{lists, numbers, reading, tally};
+use std::io::{Read, Stdin, Stdout};
 
-fn main() {
+fn main(rt: HostRuntime) {
+    let out = rt.stdout();
     let mut chunk = io::large_buffer();
     let mut line = io::large_buffer();
     let mut reading = reading::begin();
     let mut tally = tally::start();
-    // A proved loop has to end, and nothing says that the input does: it counts its turns down from a number that no run uses up.
-    let mut turns = u64::MAX;
-    while turns > 0 && !reading.over {
-        reading = read_on(&mut chunk, &mut line, reading);
-        tally = on_line(&line, reading, tally);
-        turns -= 1;
+    // A proved loop has to end, and nothing says that the input does: it takes as many turns as no run uses up.
+    for _ in 0..u64::MAX {
+        if reading.over {
+            break;
+        }
+        reading = read_on(rt.stdin(), &mut chunk, &mut line, reading);
+        tally = on_line(out, &line, reading, tally);
     }
-    report(reading, tally);
+    report(out, reading, tally);
 }
 
 // A chunk where the last one is used up, else bytes of it up to a line's end. A read that fails ends the list, and the number of rows then shows it.
-fn read_on(chunk: &mut [u8; 65536], line: &mut [u8; 65536], reading: Reading) -> Reading {
+fn read_on(
+    mut input: Stdin,
+    chunk: &mut [u8; 65536],
+    line: &mut [u8; 65536],
+    reading: Reading,
+) -> Reading {
     if !reading::is_used_up(reading) {
         return reading::take_line(line, chunk, reading);
     }
-    let got = libc::read(STDIN_FILENO, chunk);
-    let n = io::count(got, chunk);
+    let n = input.read(chunk).unwrap_or(0);
     reading::after_read(reading, n)
 }
 
 // The first line is the header. A call in its place would be missing from the number of rows.
-fn on_line(line: &[u8; 65536], reading: Reading, tally: Tally) -> Tally {
+fn on_line(out: Stdout, line: &[u8; 65536], reading: Reading, tally: Tally) -> Tally {
     if !reading.done {
         return tally;
     }
@@ -62,17 +68,17 @@ fn on_line(line: &[u8; 65536], reading: Reading, tally: Tally) -> Tally {
     } else {
         Verdict::Unreadable
     };
-    tally::on_verdict(tally, numbers::is_wrong(text), verdict)
+    tally::on_verdict(out, tally, numbers::is_wrong(text), verdict)
 }
 
 // A last line with no break may be cut short, and cannot be read.
-fn report(reading: Reading, tally: Tally) {
+fn report(out: Stdout, reading: Reading, tally: Tally) {
     let last = if reading::is_cut(reading) {
-        tally::on_verdict(tally, false, Verdict::Unreadable)
+        tally::on_verdict(out, tally, false, Verdict::Unreadable)
     } else {
         tally
     };
-    tally::report_outside(last, b"no such state ");
+    tally::report_outside(out, last, b"no such state ");
 }
 
 fn verdict_on(text: &[u8]) -> Verdict {
@@ -141,13 +147,11 @@ fn agrees_with(line: &[u64], p: Parts, given: Given, is_lent: bool, trace: &mut 
 
 // The trace list as it is before the call.
 fn load(trace: &mut [u64], before: &[u64]) {
-    let mut i = 0;
-    while i < before.len() {
+    for i in 0..before.len() {
         if i >= trace.len() {
             return;
         }
         trace[i] = before[i];
-        i += 1;
     }
 }
 
@@ -537,10 +541,8 @@ fn lock_of(numbers: &[u64], pred: Pred, cell: Content) -> Lock {
 // Records that the list lacks are Idle, with 0 for each number.
 fn recs_of(numbers: &[u64]) -> [Rec; 16] {
     let mut recs = [lock_words::plain(0, Place::Idle); 16];
-    let mut i = 0;
-    while i < MOST {
+    for i in 0..MOST {
         recs[i] = rec_of(rec_part(numbers, i));
-        i += 1;
     }
     recs
 }
@@ -577,13 +579,11 @@ fn place_of(number: u64) -> Place {
 
 // Whether the records are those of the list, as far as both have them.
 fn are_records(recs: [Rec; 16], numbers: &[u64]) -> bool {
-    let mut i = 0;
-    while i < MOST {
+    for i in 0..MOST {
         let rec = recs[i];
         if !is_record(rec, rec_part(numbers, i)) {
             return false;
         }
-        i += 1;
     }
     true
 }

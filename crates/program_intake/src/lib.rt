@@ -8,10 +8,10 @@ ghost use Rattle.scenario_promises.specs.Piped.{standing_of};
 ghost use Rattle.program_intake.specs.Intake.{nothing_taken, failed, turned, came_of, InHand};
 
 use cell::pred::Pred;
-use libc::STDIN_FILENO;
 use program_chunks::Input;
 use scenario_pieces::Standing;
 use scenario_read::{Fed, State, Stop};
+use std::io::{Read, Stdin};
 
 // What is handed from turn to turn besides the lists.
 #[derive(Clone, Copy)]
@@ -45,15 +45,17 @@ pub fn begin() -> Intake
 
 // A chunk is read where the one in hand is all taken and no row comes of it any more: a read may take long. One that fails is not the end of the
 // input: what was cut off there might be another scenario.
-pub fn read_chunk(intake: Intake, chunk: &mut [u8]) -> Input
+pub fn read_chunk(mut source: Stdin, intake: Intake, chunk: &mut [u8]) -> Input
     ensures { InHand intake chunk.old result chunk.new }
 {
     let input = intake.input;
     if keeps(intake.full, input) {
         return input;
     }
-    let got = libc::read(STDIN_FILENO, chunk);
-    program_chunks::after_read(io::count(got, chunk), has_failed(got))
+    match source.read(chunk) {
+        Ok(n) => program_chunks::after_read(n, false),
+        Err(_) => program_chunks::after_read(0, true),
+    }
 }
 
 fn keeps(full: bool, input: Input) -> bool
@@ -63,12 +65,6 @@ fn keeps(full: bool, input: Input) -> bool
         return true;
     }
     program_chunks::stays(input)
-}
-
-fn has_failed(got: isize) -> bool
-    ensures { result ≡ failed got }
-{
-    got < 0
 }
 
 // Of the chunk in hand as much is taken as the list has room for rows, which stand from its start on. That they end within it follows from the

@@ -5,12 +5,16 @@ ghost use Rattle.std.specs.Prelude.{◌≡◌, ◌+◌, ◌*◌, ◌/◌, ◌≤
 ghost use Rattle.std.proofs.lemmas.List.Edits.{sets};
 ghost use Rattle.scenario_prints.specs.Prints.{more_text};
 
-use libc::{STDERR_FILENO, STDOUT_FILENO};
 use machine::ROW_WORDS;
 use program_chunks::Input;
 use program_intake::{Came, Intake};
 use scenario_read::Stop;
 use scenario_stages::Read;
+use std::io::{ErrorKind, Stderr, Stdin, Stdout};
+use std::process::ExitCode;
+
+// The status that a shell gives a program which is ended since nobody reads its output any more.
+const UNREAD: u8 = 141;
 
 // What is handed from turn to turn, besides the lists.
 #[derive(Clone, Copy)]
@@ -22,17 +26,40 @@ struct Run {
     at: usize,
     // All is written, or no more can be.
     ended: bool,
+    // No more can be, since whoever read it has gone.
+    unread: bool,
 }
 
 // How many bytes of text wait, once there is room for more.
 #[derive(Clone, Copy)]
 struct Room {
     at: usize,
-    // Some could not be written.
-    lost: bool,
+    // What became of those that waited before.
+    before: Written,
 }
 
-fn main() {
+// Where the trace goes, and where it is said what is wrong.
+#[derive(Clone, Copy)]
+struct Outputs {
+    out: Stdout,
+    err: Stderr,
+}
+
+// What became of text that was to be written.
+#[derive(Clone, Copy)]
+enum Written {
+    Whole,
+    // Some of it could not be written.
+    Cut,
+    // Whoever read it has gone.
+    Unread,
+}
+
+fn main(rt: HostRuntime) -> ExitCode {
+    let to = Outputs {
+        out: rt.stdout(),
+        err: rt.stderr(),
+    };
     let mut line = [0; 80];
     let mut lens = [0; 16];
     let mut ops = [0; 1024];
@@ -41,7 +68,9 @@ fn main() {
     let mut rows = [0; 1536];
     let mut chunk = io::large_buffer();
     let mut out = io::large_buffer();
-    turns(
+    let unread = turns(
+        rt.stdin(),
+        to,
         &mut line,
         &mut lens,
         &mut ops,
@@ -51,10 +80,13 @@ fn main() {
         &mut chunk,
         &mut out,
     );
+    status(unread)
 }
 
 // The text of as many rows as the list holds, and of a refusal, has room in the other; and the lists have the places that the reader needs.
 fn turns(
+    input: Stdin,
+    to: Outputs,
     line: &mut [u8; 80],
     lens: &mut [u64],
     ops: &mut [u64],
@@ -63,7 +95,7 @@ fn turns(
     rows: &mut [u64],
     chunk: &mut [u8],
     out: &mut [u8],
-)
+) -> bool
     requires rows_in_bounds { 148 * (length rows.old / 6) + 51 ≤ length out.old }
     requires in_bounds { (16 ≤ length lens.old) × (1024 ≤ length ops.old) × (1024 ≤ length vals.old) }
     requires in_bounds_2 { (64 ≤ length schedule.old) × (384 ≤ length rows.old) }
@@ -73,20 +105,24 @@ fn turns(
         row: 0,
         at: scenario_text::put_header(out, 0),
         ended: false,
+        unread: false,
     };
-    // A proved loop has to end, and nothing says that the input does: it counts its turns down from a number that no run uses up.
-    let mut left = u64::MAX;
-    while 0 < left {
+    // A proved loop has to end, and nothing says that the input does: it takes as many turns as no run uses up.
+    for _ in 0..u64::MAX {
         if run.ended {
-            return;
+            return run.unread;
         }
-        left -= 1;
-        run = turn(run, line, lens, ops, vals, schedule, rows, chunk, out);
+        run = turn(
+            input, to, run, line, lens, ops, vals, schedule, rows, chunk, out,
+        );
     }
+    run.unread
 }
 
 // More rows, and their text behind what waits.
 fn turn(
+    input: Stdin,
+    to: Outputs,
     run: Run,
     line: &mut [u8; 80],
     lens: &mut [u64],
@@ -100,31 +136,32 @@ fn turn(
     requires { 148 * (length rows.old / 6) + 51 ≤ length out.old }
 {
     let intake = run.intake;
-    let input = program_intake::read_chunk(intake, chunk);
-    let came = program_intake::take_more(
-        intake, input, line, lens, ops, vals, schedule, chunk, rows,
-    );
+    let got = program_intake::read_chunk(input, intake, chunk);
+    let came = program_intake::take_more(intake, got, line, lens, ops, vals, schedule, chunk, rows);
     let n = came.at / ROW_WORDS;
-    let room = make_room(n, out, run.at);
+    let room = make_room(to, n, out, run.at);
     let stop = came.stop;
     let end = put_more(run.row, rows, n, stop, out, room.at);
     let row = std::num::wrapping_add_u64(run.row, n as u64);
-    let len = refused_length(intake, input, came, chunk);
-    after(row, came, room.lost, len, line, out, end)
+    let len = refused_length(intake, got, came, chunk);
+    after(to, row, came, room.before, len, line, out, end)
 }
 
 // What waits is written where n rows and a refusal have no room behind it.
-fn make_room(n: usize, out: &[u8], at: usize) -> Room
+fn make_room(to: Outputs, n: usize, out: &[u8], at: usize) -> Room
     requires { 148 * n + 51 ≤ length out.now }
     ensures at_value { result.at ≡ (if nat_le (at + (148 * n + 51)) (length out.now) then at else 0) }
     ensures n_in_bounds { result.at + (148 * n + 51) ≤ length out.now }
 {
     if scenario_prints::has_room(out.len(), at, n) {
-        return Room { at, lost: false };
+        return Room {
+            at,
+            before: Written::Whole,
+        };
     }
     Room {
         at: 0,
-        lost: !write(program_chunks::front(out, at)),
+        before: write(to, program_chunks::front(out, at)),
     }
 }
 
@@ -160,9 +197,10 @@ fn refused_length(before: Intake, input: Input, came: Came, chunk: &[u8]) -> usi
 
 // Before more is read, which may take long, and at the end, what waits is written.
 fn after(
+    to: Outputs,
     row: u64,
     came: Came,
-    lost: bool,
+    before: Written,
     len: usize,
     line: &[u8; 80],
     out: &mut [u8],
@@ -175,11 +213,15 @@ fn after(
     let stop = came.stop;
     let ends = input.failed || scenario_read::ends(stop);
     let wait = scenario_read::is_full(stop) && !ends;
-    let done = !lost && (wait || write(program_chunks::front(out, at)));
-    tell(done, stop, read, len, line, out);
+    let written = if wait {
+        before
+    } else {
+        write_on(to, before, program_chunks::front(out, at))
+    };
+    let done = is_whole(written);
+    tell(to.err, done, stop, read, len, line, out);
     if input.failed {
-        io::write_all(
-            STDERR_FILENO,
+        let _ = to.err.write_all(
             b"trestlecat: the input could not be read to its end, so the trace is not whole: give a file or a pipe that can be read\n",
         );
     }
@@ -188,22 +230,49 @@ fn after(
         row,
         at: if wait { at } else { 0 },
         ended: ends || !done,
+        unread: matches!(written, Written::Unread),
     }
 }
 
-fn write(text: &[u8]) -> bool {
-    let done = io::write_all(STDOUT_FILENO, text);
-    if !done {
-        io::write_all(
-            STDERR_FILENO,
-            b"trestlecat: the trace could not be written to its end, so it must not be used: make room, or let the reader take all of it\n",
-        );
+// Behind what was written before.
+fn write_on(to: Outputs, before: Written, text: &[u8]) -> Written {
+    if !is_whole(before) {
+        return before;
     }
-    done
+    write(to, text)
+}
+
+fn write(to: Outputs, text: &[u8]) -> Written {
+    match to.out.write_all(text) {
+        Ok(()) => Written::Whole,
+        Err(why) => cut(to.err, why.kind()),
+    }
+}
+
+// Whoever has gone does not want to hear of it.
+fn cut(err: Stderr, why: ErrorKind) -> Written {
+    if matches!(why, ErrorKind::BrokenPipe) {
+        return Written::Unread;
+    }
+    let _ = err.write_all(
+        b"trestlecat: the trace could not be written to its end, so it must not be used: make room, or let the reader take all of it\n",
+    );
+    Written::Cut
+}
+
+fn is_whole(written: Written) -> bool {
+    matches!(written, Written::Whole)
+}
+
+fn status(unread: bool) -> ExitCode {
+    if unread {
+        return ExitCode::from(UNREAD);
+    }
+    ExitCode::SUCCESS
 }
 
 // The refusal, where there is one and all is written, and what is known of its line.
-fn tell(whole: bool, stop: Stop, read: Read, len: usize, line: &[u8], out: &mut [u8]) {
+fn tell(err: Stderr, whole: bool, stop: Stop, read: Read, len: usize, line: &[u8], out: &mut [u8]) {
     if !whole {
         return;
     }
@@ -212,5 +281,5 @@ fn tell(whole: bool, stop: Stop, read: Read, len: usize, line: &[u8], out: &mut 
         return;
     }
     let m = program_told::put_read(out, n, read, len, line);
-    io::write_all(STDERR_FILENO, program_chunks::front(out, m));
+    let _ = err.write_all(program_chunks::front(out, m));
 }

@@ -4,12 +4,16 @@
 
 ghost use Rattle.std.specs.Prelude.{◌≡◌, length};
 
-use libc::{STDERR_FILENO, STDIN_FILENO, STDOUT_FILENO};
+use std::io::{ErrorKind, Read, Stderr, Stdin, Stdout};
+use std::process::ExitCode;
 use vcd::{Answer, Signals};
 use vcd_code::NO_ROOM;
 
 // So many bytes of text are written at once; behind them the list has room for a line.
 const FULL: usize = 50000;
+
+// The status that a shell gives a program which is ended since nobody reads its output any more.
+const UNREAD: u8 = 141;
 
 // What was read: so many bytes; whether reading failed; whether more came than there is room for.
 #[derive(Clone, Copy)]
@@ -19,12 +23,41 @@ struct Got {
     too_large: bool,
 }
 
-fn main() {
+// Where the signals go, and where it is said what is wrong.
+#[derive(Clone, Copy)]
+struct Outputs {
+    out: Stdout,
+    err: Stderr,
+}
+
+// What became of text that was to be written.
+#[derive(Clone, Copy)]
+enum Written {
+    Whole,
+    // Some of it could not be written.
+    Cut,
+    // Whoever read it has gone.
+    Unread,
+}
+
+fn main(rt: HostRuntime) -> ExitCode {
+    let to = Outputs {
+        out: rt.stdout(),
+        err: rt.stderr(),
+    };
     let mut file = file_room();
     let mut chunk = io::large_buffer();
     let mut signals = signals_room();
     let mut out = io::large_buffer();
-    read_and_print(&mut file, &mut chunk, &mut signals, &mut out);
+    let written = read_and_print(
+        rt.stdin(),
+        to,
+        &mut file,
+        &mut chunk,
+        &mut signals,
+        &mut out,
+    );
+    status(matches!(written, Written::Unread))
 }
 
 // What the limits leave room for. The `ensures` give only the lengths, which lending the arrays needs.
@@ -41,39 +74,40 @@ fn signals_room() -> [u64; 32768]
 }
 
 // A read that fails is not the end of the input: what was cut off there might be another waveform.
-fn read_and_print(file: &mut [u8], chunk: &mut [u8], signals: &mut [u64], out: &mut [u8]) {
-    let got = read_file(file, chunk);
+fn read_and_print(
+    input: Stdin,
+    to: Outputs,
+    file: &mut [u8],
+    chunk: &mut [u8],
+    signals: &mut [u64],
+    out: &mut [u8],
+) -> Written {
+    let got = read_file(input, file, chunk);
     if got.failed {
-        io::write_all(
-            STDERR_FILENO,
+        let _ = to.err.write_all(
             b"trestlecat: the input could not be read to its end, so nothing is printed: give a file or a pipe that can be read\n",
         );
-        return;
+        return Written::Whole;
     }
     let answer = read_signals(program_chunks::front(file, got.n), got.too_large, signals);
-    print(answer, signals, out);
+    print(to, answer, signals, out)
 }
 
 // Up to the end of the input, which is read once, so that at a terminal it is said once; or as far as there is room.
-fn read_file(file: &mut [u8], chunk: &mut [u8]) -> Got {
+fn read_file(mut input: Stdin, file: &mut [u8], chunk: &mut [u8]) -> Got {
     let mut n = 0;
-    // A proved loop has to end, and nothing says that the input does: it counts down from a number that no input uses up.
-    let mut left = u64::MAX;
-    while 0 < left {
-        left -= 1;
-        let got = libc::read(STDIN_FILENO, chunk);
-        if got <= 0 {
+    // A proved loop has to end, and nothing says that the input does: it takes as many turns as no input uses up.
+    for _ in 0..u64::MAX {
+        let got = input.read(chunk);
+        let more = got.unwrap_or(0);
+        if more == 0 {
             return Got {
                 n,
-                failed: got < 0,
+                failed: got.is_err(),
                 too_large: false,
             };
         }
-        let m = scenario_text::put_bytes(
-            file,
-            n,
-            program_chunks::front(chunk, io::count(got, chunk)),
-        );
+        let m = scenario_text::put_bytes(file, n, program_chunks::front(chunk, more));
         if m == n {
             break;
         }
@@ -96,36 +130,36 @@ fn read_signals(file: &[u8], too_large: bool, signals: &mut [u64]) -> Answer {
     vcd_code::read::read(file, signals)
 }
 
-fn print(answer: Answer, signals: &[u64], out: &mut [u8]) {
+fn print(to: Outputs, answer: Answer, signals: &[u64], out: &mut [u8]) -> Written {
     if answer.refused != 0 {
         let n = scenario_text::put_refusal(out, 0, answer.refused, 0);
         let text = program_chunks::front(out, n);
         // whoever started it makes words of this, as of what the other programs tell
-        if write(text) {
-            io::write_all(STDERR_FILENO, text);
+        let written = write(to, text);
+        if is_whole(written) {
+            let _ = to.err.write_all(text);
         }
-        return;
+        return written;
     }
-    print_lines(signals, answer.n, out);
+    print_lines(to, signals, answer.n, out)
 }
 
-fn print_lines(signals: &[u64], rows: u64, out: &mut [u8]) {
+fn print_lines(to: Outputs, signals: &[u64], rows: u64, out: &mut [u8]) -> Written {
     let mut at = scenario_text::put_bytes(out, 0, b"time,exc,rc\r\n");
-    let mut t = 0;
-    while t < signals.len() {
+    for t in 0..signals.len() {
         if rows < t as u64 {
             break;
         }
         at = put_line(signals, t, out, at);
         if FULL < at {
-            if !write(program_chunks::front(out, at)) {
-                return;
+            let written = write(to, program_chunks::front(out, at));
+            if !is_whole(written) {
+                return written;
             }
             at = 0;
         }
-        t += 1;
     }
-    write(program_chunks::front(out, at));
+    write(to, program_chunks::front(out, at))
 }
 
 fn put_line(signals: &[u64], t: usize, out: &mut [u8], at: usize) -> usize {
@@ -150,13 +184,31 @@ fn put_field(out: &mut [u8], at: usize, v: u64, end: &[u8]) -> usize {
     scenario_text::put_bytes(out, n, end)
 }
 
-fn write(text: &[u8]) -> bool {
-    let done = io::write_all(STDOUT_FILENO, text);
-    if !done {
-        io::write_all(
-            STDERR_FILENO,
-            b"trestlecat: the signals could not be written to their end, so they must not be used: make room, or let the reader take all of them\n",
-        );
+fn write(to: Outputs, text: &[u8]) -> Written {
+    match to.out.write_all(text) {
+        Ok(()) => Written::Whole,
+        Err(why) => cut(to.err, why.kind()),
     }
-    done
+}
+
+// Whoever has gone does not want to hear of it.
+fn cut(err: Stderr, why: ErrorKind) -> Written {
+    if matches!(why, ErrorKind::BrokenPipe) {
+        return Written::Unread;
+    }
+    let _ = err.write_all(
+        b"trestlecat: the signals could not be written to their end, so they must not be used: make room, or let the reader take all of them\n",
+    );
+    Written::Cut
+}
+
+fn is_whole(written: Written) -> bool {
+    matches!(written, Written::Whole)
+}
+
+fn status(unread: bool) -> ExitCode {
+    if unread {
+        return ExitCode::from(UNREAD);
+    }
+    ExitCode::SUCCESS
 }

@@ -7,14 +7,18 @@ ghost use Rattle.std.proofs.lemmas.List.Edits.{sets};
 ghost use Rattle.vcd.specs.Trace.{row_signals};
 ghost use Rattle.vcd_rows.specs.Waves.{left_by, text_by};
 
-use libc::{STDERR_FILENO, STDOUT_FILENO};
 use machine::ROW_WORDS;
 use program_chunks::Input;
 use program_intake::{Came, Intake};
 use scenario_read::Stop;
 use scenario_stages::Read;
+use std::io::{ErrorKind, Stderr, Stdin, Stdout};
+use std::process::ExitCode;
 use vcd::{Signals, Wave};
 use vcd_rows::Left;
+
+// The status that a shell gives a program which is ended since nobody reads its output any more.
+const UNREAD: u8 = 141;
 
 // What is handed from turn to turn, besides the lists.
 #[derive(Clone, Copy)]
@@ -25,17 +29,40 @@ struct Run {
     at: usize,
     // All is written, or no more can be.
     ended: bool,
+    // No more can be, since whoever read it has gone.
+    unread: bool,
 }
 
 // How many bytes of the waveform wait, once there is room for more.
 #[derive(Clone, Copy)]
 struct Room {
     at: usize,
-    // Some could not be written.
-    lost: bool,
+    // What became of those that waited before.
+    before: Written,
 }
 
-fn main() {
+// Where the waveform goes, and where it is said what is wrong.
+#[derive(Clone, Copy)]
+struct Outputs {
+    out: Stdout,
+    err: Stderr,
+}
+
+// What became of text that was to be written.
+#[derive(Clone, Copy)]
+enum Written {
+    Whole,
+    // Some of it could not be written.
+    Cut,
+    // Whoever read it has gone.
+    Unread,
+}
+
+fn main(rt: HostRuntime) -> ExitCode {
+    let to = Outputs {
+        out: rt.stdout(),
+        err: rt.stderr(),
+    };
     let mut line = [0; 80];
     let mut lens = [0; 16];
     let mut ops = [0; 1024];
@@ -44,7 +71,9 @@ fn main() {
     let mut rows = [0; 1536];
     let mut chunk = io::large_buffer();
     let mut out = io::large_buffer();
-    turns(
+    let unread = turns(
+        rt.stdin(),
+        to,
         &mut line,
         &mut lens,
         &mut ops,
@@ -54,10 +83,13 @@ fn main() {
         &mut chunk,
         &mut out,
     );
+    status(unread)
 }
 
 // What as many rows as the list holds may change has room in the other; and the lists have the places that the reader needs.
 fn turns(
+    input: Stdin,
+    to: Outputs,
     line: &mut [u8; 80],
     lens: &mut [u64],
     ops: &mut [u64],
@@ -66,21 +98,22 @@ fn turns(
     rows: &mut [u64],
     chunk: &mut [u8],
     out: &mut [u8],
-)
+) -> bool
     requires rows_in_bounds { 93 * (length rows.old / 6) ≤ length out.old }
     requires in_bounds { (16 ≤ length lens.old) × (1024 ≤ length ops.old) × (1024 ≤ length vals.old) }
     requires in_bounds_2 { (64 ≤ length schedule.old) × (384 ≤ length rows.old) }
 {
     let mut run = begin(out);
-    // A proved loop has to end, and nothing says that the input does: it counts its turns down from a number that no run uses up.
-    let mut left = u64::MAX;
-    while 0 < left {
+    // A proved loop has to end, and nothing says that the input does: it takes as many turns as no run uses up.
+    for _ in 0..u64::MAX {
         if run.ended {
-            return;
+            return run.unread;
         }
-        left -= 1;
-        run = turn(run, line, lens, ops, vals, schedule, rows, chunk, out);
+        run = turn(
+            input, to, run, line, lens, ops, vals, schedule, rows, chunk, out,
+        );
     }
+    run.unread
 }
 
 // The signals start as they are after setup.
@@ -96,11 +129,14 @@ fn begin(out: &mut [u8]) -> Run {
         wave,
         at: vcd_text::put_front(out, 0, signals),
         ended: false,
+        unread: false,
     }
 }
 
 // More rows, and what they change behind what waits.
 fn turn(
+    input: Stdin,
+    to: Outputs,
     run: Run,
     line: &mut [u8; 80],
     lens: &mut [u64],
@@ -114,30 +150,31 @@ fn turn(
     requires { 93 * (length rows.old / 6) ≤ length out.old }
 {
     let intake = run.intake;
-    let input = program_intake::read_chunk(intake, chunk);
-    let came = program_intake::take_more(
-        intake, input, line, lens, ops, vals, schedule, chunk, rows,
-    );
+    let got = program_intake::read_chunk(input, intake, chunk);
+    let came = program_intake::take_more(intake, got, line, lens, ops, vals, schedule, chunk, rows);
     let n = came.at / ROW_WORDS;
-    let room = make_room(n, out, run.at);
+    let room = make_room(to, n, out, run.at);
     let wave = run.wave;
     let left = put_rows(wave, rows, n, out, room.at);
-    let len = refused_length(intake, input, came, chunk);
-    after(came, room.lost, left, len, line, out)
+    let len = refused_length(intake, got, came, chunk);
+    after(to, came, room.before, left, len, line, out)
 }
 
 // What waits is written where the changes of n rows have no room behind it.
-fn make_room(n: usize, out: &[u8], at: usize) -> Room
+fn make_room(to: Outputs, n: usize, out: &[u8], at: usize) -> Room
     requires { 93 * n ≤ length out.now }
     ensures at_value { result.at ≡ cond (leb (at + 93 * n) (length out.now)) at 0 }
     ensures n_in_bounds { result.at + 93 * n ≤ length out.now }
 {
     if vcd_rows::has_room(out.len(), at, n) {
-        return Room { at, lost: false };
+        return Room {
+            at,
+            before: Written::Whole,
+        };
     }
     Room {
         at: 0,
-        lost: !write(program_chunks::front(out, at)),
+        before: write(to, program_chunks::front(out, at)),
     }
 }
 
@@ -172,21 +209,34 @@ fn refused_length(before: Intake, input: Input, came: Came, chunk: &[u8]) -> usi
 }
 
 // Before more is read, which may take long, and at the end, what waits is written.
-fn after(came: Came, lost: bool, left: Left, len: usize, line: &[u8; 80], out: &mut [u8]) -> Run {
+fn after(
+    to: Outputs,
+    came: Came,
+    before: Written,
+    left: Left,
+    len: usize,
+    line: &[u8; 80],
+    out: &mut [u8],
+) -> Run {
     let intake = came.intake;
     let input = intake.input;
     let state = intake.state;
     let read = state.read;
     let wave = left.wave;
     let stop = came.stop;
-    let ends = input.failed || scenario_read::ends(stop);
+    let over = scenario_read::ends(stop);
+    let ends = input.failed || over;
     let wait = scenario_read::is_full(stop) && !ends;
-    let done = !lost && (wait || write(program_chunks::front(out, left.at)));
-    let whole = close(done && scenario_read::ends(stop), wave, out);
-    tell(whole, stop, read, len, line, out);
+    let written = if wait {
+        before
+    } else {
+        write_on(to, before, program_chunks::front(out, left.at))
+    };
+    let closed = close(to, written, over, wave, out);
+    let done = is_whole(closed);
+    tell(to.err, done && over, stop, read, len, line, out);
     if input.failed {
-        io::write_all(
-            STDERR_FILENO,
+        let _ = to.err.write_all(
             b"trestlecat: the input could not be read to its end, so the waveform is not whole: give a file or a pipe that can be read\n",
         );
     }
@@ -195,31 +245,58 @@ fn after(came: Came, lost: bool, left: Left, len: usize, line: &[u8; 80], out: &
         wave,
         at: if wait { left.at } else { 0 },
         ended: ends || !done,
+        unread: matches!(closed, Written::Unread),
     }
 }
 
-fn write(text: &[u8]) -> bool {
-    let done = io::write_all(STDOUT_FILENO, text);
-    if !done {
-        io::write_all(
-            STDERR_FILENO,
-            b"trestlecat: the waveform could not be written to its end, so it must not be used: make room, or let the reader take all of it\n",
-        );
+// Behind what was written before.
+fn write_on(to: Outputs, before: Written, text: &[u8]) -> Written {
+    if !is_whole(before) {
+        return before;
     }
-    done
+    write(to, text)
 }
 
-// The close, where all before it is written and nothing comes any more. Whether the waveform is whole.
-fn close(ready: bool, wave: Wave, out: &mut [u8]) -> bool {
-    if !ready {
-        return false;
+fn write(to: Outputs, text: &[u8]) -> Written {
+    match to.out.write_all(text) {
+        Ok(()) => Written::Whole,
+        Err(why) => cut(to.err, why.kind()),
+    }
+}
+
+// Whoever has gone does not want to hear of it.
+fn cut(err: Stderr, why: ErrorKind) -> Written {
+    if matches!(why, ErrorKind::BrokenPipe) {
+        return Written::Unread;
+    }
+    let _ = err.write_all(
+        b"trestlecat: the waveform could not be written to its end, so it must not be used: make room, or let the reader take all of it\n",
+    );
+    Written::Cut
+}
+
+fn is_whole(written: Written) -> bool {
+    matches!(written, Written::Whole)
+}
+
+fn status(unread: bool) -> ExitCode {
+    if unread {
+        return ExitCode::from(UNREAD);
+    }
+    ExitCode::SUCCESS
+}
+
+// The close, where all before it is written and nothing comes any more. What became of the waveform up to there.
+fn close(to: Outputs, before: Written, over: bool, wave: Wave, out: &mut [u8]) -> Written {
+    if !over || !is_whole(before) {
+        return before;
     }
     let n = vcd_text::put_close(out, 0, wave);
-    write(program_chunks::front(out, n))
+    write(to, program_chunks::front(out, n))
 }
 
 // The refusal, where there is one and all is written, and what is known of its line.
-fn tell(whole: bool, stop: Stop, read: Read, len: usize, line: &[u8], out: &mut [u8]) {
+fn tell(err: Stderr, whole: bool, stop: Stop, read: Read, len: usize, line: &[u8], out: &mut [u8]) {
     if !whole {
         return;
     }
@@ -228,5 +305,5 @@ fn tell(whole: bool, stop: Stop, read: Read, len: usize, line: &[u8], out: &mut 
         return;
     }
     let m = program_told::put_read(out, n, read, len, line);
-    io::write_all(STDERR_FILENO, program_chunks::front(out, m));
+    let _ = err.write_all(program_chunks::front(out, m));
 }

@@ -6,9 +6,13 @@ ghost use Rattle.std.specs.Prelude.{◌≤◌, ◌≡◌, length};
 ghost use Rattle.std.proofs.lemmas.List.Edits.{sets};
 ghost use Rattle.program_why.specs.Answered.{answered};
 
-use libc::{STDERR_FILENO, STDOUT_FILENO};
 use program_intake::{Came, Intake};
 use scenario_read::Stop;
+use std::io::{ErrorKind, Stderr, Stdin, Stdout};
+use std::process::ExitCode;
+
+// The status that a shell gives a program which is ended since nobody reads its output any more.
+const UNREAD: u8 = 141;
 
 // What is handed from turn to turn, besides the lists.
 #[derive(Clone, Copy)]
@@ -16,9 +20,32 @@ struct Run {
     intake: Intake,
     // All is written, or no more can be.
     ended: bool,
+    // No more can be, since whoever read it has gone.
+    unread: bool,
 }
 
-fn main() {
+// Where the answers go, and where it is said what is wrong.
+#[derive(Clone, Copy)]
+struct Outputs {
+    out: Stdout,
+    err: Stderr,
+}
+
+// What became of text that was to be written.
+#[derive(Clone, Copy)]
+enum Written {
+    Whole,
+    // Some of it could not be written.
+    Cut,
+    // Whoever read it has gone.
+    Unread,
+}
+
+fn main(rt: HostRuntime) -> ExitCode {
+    let to = Outputs {
+        out: rt.stdout(),
+        err: rt.stderr(),
+    };
     let mut line = [0; 80];
     let mut lens = [0; 16];
     let mut ops = [0; 1024];
@@ -27,7 +54,9 @@ fn main() {
     let mut rows = [0; 1536];
     let mut chunk = io::large_buffer();
     let mut out = io::large_buffer();
-    turns(
+    let unread = turns(
+        rt.stdin(),
+        to,
         &mut line,
         &mut lens,
         &mut ops,
@@ -37,10 +66,13 @@ fn main() {
         &mut chunk,
         &mut out,
     );
+    status(unread)
 }
 
 // The answers have room in the list, and the lists have the places that the reader needs.
 fn turns(
+    input: Stdin,
+    to: Outputs,
     line: &mut [u8; 80],
     lens: &mut [u64],
     ops: &mut [u64],
@@ -49,27 +81,31 @@ fn turns(
     rows: &mut [u64],
     chunk: &mut [u8],
     out: &mut [u8],
-)
+) -> bool
     requires in_bounds { (16 ≤ length lens.old) × (1024 ≤ length ops.old) × (1024 ≤ length vals.old) }
     requires in_bounds_2 { (64 ≤ length schedule.old) × (384 ≤ length rows.old) × (1386 ≤ length out.old) }
 {
     let mut run = Run {
         intake: program_intake::begin(),
         ended: false,
+        unread: false,
     };
-    // A proved loop has to end, and nothing says that the input does: it counts its turns down from a number that no run uses up.
-    let mut left = u64::MAX;
-    while 0 < left {
+    // A proved loop has to end, and nothing says that the input does: it takes as many turns as no run uses up.
+    for _ in 0..u64::MAX {
         if run.ended {
-            return;
+            return run.unread;
         }
-        left -= 1;
-        run = turn(run, line, lens, ops, vals, schedule, rows, chunk, out);
+        run = turn(
+            input, to, run, line, lens, ops, vals, schedule, rows, chunk, out,
+        );
     }
+    run.unread
 }
 
 // The rows are not wanted: it is asked of what they leave.
 fn turn(
+    input: Stdin,
+    to: Outputs,
     run: Run,
     line: &mut [u8; 80],
     lens: &mut [u64],
@@ -83,53 +119,83 @@ fn turn(
     requires { 1386 ≤ length out.old }
 {
     let intake = run.intake;
-    let input = program_intake::read_chunk(intake, chunk);
-    let came = program_intake::take_more(
-        intake, input, line, lens, ops, vals, schedule, chunk, rows,
-    );
-    after(came, lens, ops, vals, out)
+    let got = program_intake::read_chunk(input, intake, chunk);
+    let came = program_intake::take_more(intake, got, line, lens, ops, vals, schedule, chunk, rows);
+    after(to, came, lens, ops, vals, out)
 }
 
 // A read that fails is no end of the scenario: then nothing is printed.
-fn after(came: Came, lens: &[u64], ops: &[u64], vals: &[u64], out: &mut [u8]) -> Run
+fn after(to: Outputs, came: Came, lens: &[u64], ops: &[u64], vals: &[u64], out: &mut [u8]) -> Run
     requires { 1386 ≤ length out.old }
 {
     let intake = came.intake;
     let input = intake.input;
     let stop = came.stop;
     let ends = scenario_read::ends(stop);
-    answer(ends, came, lens, ops, vals, out);
+    let written = answer(to, ends, came, lens, ops, vals, out);
     if input.failed && !ends {
-        io::write_all(
-            STDERR_FILENO,
+        let _ = to.err.write_all(
             b"trestlecat: the input could not be read to its end, so nothing is answered: give a file or a pipe that can be read\n",
         );
     }
     Run {
         intake,
         ended: input.failed || ends,
+        unread: matches!(written, Written::Unread),
     }
 }
 
-// At the end of the scenario.
-fn answer(ends: bool, came: Came, lens: &[u64], ops: &[u64], vals: &[u64], out: &mut [u8])
+// At the end of the scenario. What became of the answers.
+fn answer(
+    to: Outputs,
+    ends: bool,
+    came: Came,
+    lens: &[u64],
+    ops: &[u64],
+    vals: &[u64],
+    out: &mut [u8],
+) -> Written
     requires { 1386 ≤ length out.old }
 {
     if !ends {
-        return;
+        return Written::Whole;
     }
     let stop = came.stop;
     let n = put_answers(came, lens, ops, vals, out);
-    let done = io::write_all(STDOUT_FILENO, program_chunks::front(out, n));
-    if done && is_refused(stop) {
-        io::write_all(STDERR_FILENO, program_chunks::front(out, n));
+    let written = write(to, program_chunks::front(out, n));
+    if is_whole(written) && is_refused(stop) {
+        let _ = to.err.write_all(program_chunks::front(out, n));
     }
-    if !done {
-        io::write_all(
-            STDERR_FILENO,
-            b"trestlecat: the answers could not be written to their end, so they must not be used: make room, or let the reader take all of them\n",
-        );
+    written
+}
+
+fn write(to: Outputs, text: &[u8]) -> Written {
+    match to.out.write_all(text) {
+        Ok(()) => Written::Whole,
+        Err(why) => cut(to.err, why.kind()),
     }
+}
+
+// Whoever has gone does not want to hear of it.
+fn cut(err: Stderr, why: ErrorKind) -> Written {
+    if matches!(why, ErrorKind::BrokenPipe) {
+        return Written::Unread;
+    }
+    let _ = err.write_all(
+        b"trestlecat: the answers could not be written to their end, so they must not be used: make room, or let the reader take all of them\n",
+    );
+    Written::Cut
+}
+
+fn is_whole(written: Written) -> bool {
+    matches!(written, Written::Whole)
+}
+
+fn status(unread: bool) -> ExitCode {
+    if unread {
+        return ExitCode::from(UNREAD);
+    }
+    ExitCode::SUCCESS
 }
 
 // No answer is lost, since there is room.

@@ -15,7 +15,6 @@ use Rattle.scenario_lines.specs.declared.Parsed.{Parsed}
 use Rattle.scenario_lines.proofs.Scans.{part_whole, fields_cut, fields_one}
 use Rattle.replay.specs.Lists.{part_of, place_of}
 use Rattle.replay.specs.Numbers.{Filled, filled, is_put, put_in, fill}
-use Rattle.replay.specs.declared.numbers.Stored.{Stored}
 use Rattle.replay.specs.declared.numbers.Stored.TheVariants.{Broken, All}
 use Rattle.replay.proofs.Scans.{part_in}
 

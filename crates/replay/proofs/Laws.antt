@@ -1,5 +1,5 @@
 -- The laws of the replays' library. Assumes nothing.
-use Prim.Native.Nat.{ℕ, zero, suc, ◌+◌, ◌-◌, ◌<◌, ◌≤◌}
+use Prim.Native.Nat.{ℕ, zero, suc, ◌+◌, ◌-◌, ◌≤◌}
 use mathlib.Core.Bool.{Bool, true, false, ◌&&◌, not, cond, false≢true}
 use mathlib.Core.Path.{◌≡◌, refl, sym, ap, ◌∙◌}
 use mathlib.Core.List.{List, [], ◌∷◌, ◌++◌, map}
@@ -7,14 +7,14 @@ use native.Mathlib.Nat.{sub-zero, suc-sub-suc}
 use native.Mathlib.Numerals.{add-one}
 use native.Mathlib.Omega.{arith}
 use borrow.Author.Tests.{eq-eqb, eqb-true, lt-ltb}
-use lib.Dec.{eqb, ltb}
-use lib.ListN.{length, take, drop, set, replicate, length-set}
+use lib.Dec.{eqb}
+use lib.ListN.{length, set, replicate, length-set}
 use lib.Seq.{sets, sets-eq}
 use Rattle.scenario_lines.specs.Judge.{equal, fields}
 use Rattle.scenario_lines.specs.Number.{number}
 use Rattle.scenario_lines.specs.declared.Parsed.TheVariants.{Is}
 use Rattle.replay.specs.Lists.{front_then}
-use Rattle.replay.specs.Numbers.{Filled, filled, fill}
+use Rattle.replay.specs.Numbers.{filled, fill}
 use Rattle.replay.specs.Reading.{Took, took, taking, byte_before, grown}
 use Rattle.replay.specs.Laws.{SameList, FrontAndRest, NumbersInPlace, without_break, LineGathered, behind, CutAnywhere}
 use Rattle.replay.specs.declared.numbers.Stored.TheVariants.{All}

@@ -1,5 +1,5 @@
 -- The numbers of a line, as `scenario_lines` has fields and numbers, and the list of words that they go to.
-use Rattle.std.specs.Prelude.{ℕ, suc, Bool, true, false, cond, List, [], ◌∷◌, eqb, ltb, length, set}
+use Rattle.std.specs.Prelude.{ℕ, suc, Bool, false, cond, List, [], ◌∷◌, eqb, ltb, length, set}
 use Rattle.scenario_lines.specs.Judge.{fields, comma}
 use Rattle.scenario_lines.specs.Number.{number}
 use Rattle.scenario_lines.specs.declared.Parsed.{Parsed}

@@ -2,7 +2,7 @@
 ghost use Rattle.std.specs.Prelude.{true, false, ◌≡◌};
 ghost use Rattle.replay.specs.Tally.{fresh, passed, agreed, differed, left_unread, left_outside, found_wrong, counted, cut_short, after_verdict, rows_of, sum_of};
 
-use libc::STDOUT_FILENO;
+use std::io::Stdout;
 
 // How many lines that differ are named.
 const NAMED: u64 = 5;
@@ -53,82 +53,82 @@ pub fn pass(t: Tally) -> Tally
 }
 
 // A row of a list that tells only whether its lines agree.
-pub fn count(t: Tally, equal: bool) -> Tally
+pub fn count(out: Stdout, t: Tally, equal: bool) -> Tally
     ensures { result ≡ counted t equal }
 {
-    if equal { agree(t) } else { differ(t) }
+    if equal { agree(t) } else { differ(out, t) }
 }
 
 // A last line with no break may be cut short, and counts as different.
-pub fn count_cut(t: Tally, cut: bool) -> Tally
+pub fn count_cut(out: Stdout, t: Tally, cut: bool) -> Tally
     ensures { result ≡ cut_short t cut }
 {
-    if cut { differ(t) } else { t }
+    if cut { differ(out, t) } else { t }
 }
 
 // A line, which is wrong on purpose or not. A wrong one has to be found.
-pub fn on_verdict(t: Tally, wrong: bool, verdict: Verdict) -> Tally
+pub fn on_verdict(out: Stdout, t: Tally, wrong: bool, verdict: Verdict) -> Tally
     ensures { result ≡ after_verdict t wrong verdict }
 {
     if wrong {
-        on_wrong(t, verdict)
+        on_wrong(out, t, verdict)
     } else {
-        on_good(t, verdict)
+        on_good(out, t, verdict)
     }
 }
 
 // Prints the first three numbers and returns how many rows there were.
-pub fn report(t: Tally) -> u64
+pub fn report(out: Stdout, t: Tally) -> u64
     ensures { result ≡ rows_of t }
 {
     let rows = sum(t.equal, t.different);
-    print(b"rows ", rows);
-    print(b"equal ", t.equal);
-    print(b"different ", t.different);
+    print(out, b"rows ", rows);
+    print(out, b"equal ", t.equal);
+    print(out, b"different ", t.different);
     rows
 }
 
 // The same, with the lines that cannot be read and the wrong ones that were found.
-pub fn report_all(t: Tally) -> u64
+pub fn report_all(out: Stdout, t: Tally) -> u64
     ensures { result ≡ rows_of t }
 {
-    let rows = report(t);
-    print(b"unreadable ", t.unreadable);
-    print(b"wrong on purpose and found ", t.found);
+    let rows = report(out, t);
+    print(out, b"unreadable ", t.unreadable);
+    print(out, b"wrong on purpose and found ", t.found);
     rows
 }
 
 // The same, with the lines outside the types under the list's own name for them.
-pub fn report_outside(t: Tally, what: &[u8]) -> u64
+pub fn report_outside(out: Stdout, t: Tally, what: &[u8]) -> u64
     ensures { result ≡ rows_of t }
 {
-    let rows = report(t);
-    print(b"unreadable ", t.unreadable);
-    print(what, t.outside);
-    print(b"wrong on purpose and found ", t.found);
+    let rows = report(out, t);
+    print(out, b"unreadable ", t.unreadable);
+    print(out, what, t.outside);
+    print(out, b"wrong on purpose and found ", t.found);
     rows
 }
 
-fn on_good(t: Tally, verdict: Verdict) -> Tally
+fn on_good(out: Stdout, t: Tally, verdict: Verdict) -> Tally
     ensures { result ≡ after_verdict t false verdict }
 {
     match verdict {
         Verdict::Agrees => agree(t),
-        Verdict::Differs => differ(t),
-        Verdict::Unreadable => leave_unread(t),
+        Verdict::Differs => differ(out, t),
+        Verdict::Unreadable => leave_unread(out, t),
         Verdict::Outside => leave_outside(t),
     }
 }
 
 // A wrong line that agrees differs from what it is there for, and is named as a line that differs.
-fn on_wrong(t: Tally, verdict: Verdict) -> Tally
+fn on_wrong(out: Stdout, t: Tally, verdict: Verdict) -> Tally
     ensures { result ≡ after_verdict t true verdict }
 {
     match verdict {
-        Verdict::Agrees => differ(t),
-        Verdict::Differs => find(t, b"wrong on purpose, different at line "),
-        Verdict::Unreadable => find(t, b"wrong on purpose, unreadable at line "),
-        Verdict::Outside => differ(t),
+        Verdict::Agrees => differ(out, t),
+        Verdict::Differs => find(out, t, b"wrong on purpose, different at line "),
+        Verdict::Unreadable => find(out, t, b"wrong on purpose, unreadable at line "),
+        Verdict::Outside => differ(out, t),
     }
 }
 
@@ -141,21 +141,21 @@ fn agree(t: Tally) -> Tally
 }
 
 // The first lines that differ are named as they come.
-fn differ(t: Tally) -> Tally
+fn differ(out: Stdout, t: Tally) -> Tally
     ensures { result ≡ differed t }
 {
     if t.different < NAMED {
-        print(b"different at line ", t.line);
+        print(out, b"different at line ", t.line);
     }
     let mut after = pass(t);
     after.different = up(t.different);
     after
 }
 
-fn leave_unread(t: Tally) -> Tally
+fn leave_unread(out: Stdout, t: Tally) -> Tally
     ensures { result ≡ left_unread t }
 {
-    print(b"unreadable at line ", t.line);
+    print(out, b"unreadable at line ", t.line);
     let mut after = pass(t);
     after.unreadable = up(t.unreadable);
     after
@@ -169,10 +169,10 @@ fn leave_outside(t: Tally) -> Tally
     after
 }
 
-fn find(t: Tally, how: &[u8]) -> Tally
+fn find(out: Stdout, t: Tally, how: &[u8]) -> Tally
     ensures { result ≡ found_wrong t }
 {
-    print(how, t.line);
+    print(out, how, t.line);
     let mut after = pass(t);
     after.found = up(t.found);
     after
@@ -191,8 +191,8 @@ fn sum(a: u64, b: u64) -> u64
     if a <= u64::MAX - b { a + b } else { u64::MAX }
 }
 
-fn print(what: &[u8], n: u64) {
-    io::write_all(STDOUT_FILENO, what);
-    io::print_decimal(STDOUT_FILENO, n);
-    io::write_all(STDOUT_FILENO, b"\n");
+// What cannot be written is passed over: the tally counts on, and whoever reads the report misses a line.
+fn print(out: Stdout, what: &[u8], n: u64) {
+    let _ = out.write_all(what);
+    let _ = out.println(n);
 }

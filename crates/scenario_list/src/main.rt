@@ -8,13 +8,13 @@
 ghost use Rattle.std.specs.Prelude.{◌<◌, ◌≤◌};
 
 use cell::pred::Pred;
-use libc::STDIN_FILENO;
 use machine::ROW_WORDS;
 use replay::numbers::Stored;
 use replay::reading::Reading;
 use replay::tally::Tally;
 use replay::{lists, reading, tally};
 use scenario_read::Fed;
+use std::io::{Read, Stdin, Stdout};
 
 // The number that no digit of base 16 has.
 const NO_DIGIT: u8 = 16;
@@ -22,42 +22,48 @@ const NO_DIGIT: u8 = 16;
 // How much of the list a byte takes that is written as a backslash and two digits.
 const ESCAPED: usize = 3;
 
-fn main() {
+fn main(rt: HostRuntime) {
+    let out = rt.stdout();
     let mut chunk = io::large_buffer();
     let mut line = io::large_buffer();
     let mut reading = reading::begin();
     let mut tally = tally::start();
-    // A proved loop has to end, and nothing says that the input does: it counts its turns down from a number that no run uses up.
-    let mut turns = u64::MAX;
-    while turns > 0 && !reading.over {
-        reading = read_on(&mut chunk, &mut line, reading);
-        tally = on_line(&line, reading, tally);
-        turns -= 1;
+    // A proved loop has to end, and nothing says that the input does: it takes as many turns as no run uses up.
+    for _ in 0..u64::MAX {
+        if reading.over {
+            break;
+        }
+        reading = read_on(rt.stdin(), &mut chunk, &mut line, reading);
+        tally = on_line(out, &line, reading, tally);
     }
-    report(reading, tally);
+    report(out, reading, tally);
 }
 
 // A chunk where the last one is used up, else bytes of it up to a line's end. A read that fails ends the list, and the number of rows then shows it.
-fn read_on(chunk: &mut [u8; 65536], line: &mut [u8; 65536], reading: Reading) -> Reading {
+fn read_on(
+    mut input: Stdin,
+    chunk: &mut [u8; 65536],
+    line: &mut [u8; 65536],
+    reading: Reading,
+) -> Reading {
     if !reading::is_used_up(reading) {
         return reading::take_line(line, chunk, reading);
     }
-    let got = libc::read(STDIN_FILENO, chunk);
-    let n = io::count(got, chunk);
+    let n = input.read(chunk).unwrap_or(0);
     reading::after_read(reading, n)
 }
 
-fn on_line(line: &[u8; 65536], reading: Reading, tally: Tally) -> Tally {
+fn on_line(out: Stdout, line: &[u8; 65536], reading: Reading, tally: Tally) -> Tally {
     if !reading.done {
         return tally;
     }
     let agrees = reading::is_whole(line, reading) && is_row(reading::text(line, reading));
-    tally::count(tally, agrees)
+    tally::count(out, tally, agrees)
 }
 
 // A last line with no break may be cut short, and counts as different.
-fn report(reading: Reading, tally: Tally) {
-    tally::report(tally::count_cut(tally, reading::is_cut(reading)));
+fn report(out: Stdout, reading: Reading, tally: Tally) {
+    tally::report(out, tally::count_cut(out, tally, reading::is_cut(reading)));
 }
 
 // What the file before the bar prints is what stands behind it.

@@ -6,13 +6,13 @@
 
 ghost use Rattle.std.specs.Prelude.{◌≤◌};
 
-use libc::STDIN_FILENO;
 use replay::numbers::Stored;
 use replay::reading::Reading;
 use replay::tally::{Tally, Verdict};
 use replay::{lists, numbers, reading, tally};
 use scenario_lines::Parsed;
 use scenario_lines::number::one_more;
+use std::io::{Read, Stdin, Stdout};
 use vcd::Answer;
 use vcd_code::{read, write};
 
@@ -33,33 +33,39 @@ const WRITE: u64 = 1;
 
 const READ: u64 = 2;
 
-fn main() {
+fn main(rt: HostRuntime) {
+    let out = rt.stdout();
     let mut chunk = io::large_buffer();
     let mut line = io::large_buffer();
     let mut reading = reading::begin();
     let mut tally = tally::start();
-    // A proved loop has to end, and nothing says that the input does: it counts its turns down from a number that no run uses up.
-    let mut turns = u64::MAX;
-    while turns > 0 && !reading.over {
-        reading = read_on(&mut chunk, &mut line, reading);
-        tally = on_line(&line, reading, tally);
-        turns -= 1;
+    // A proved loop has to end, and nothing says that the input does: it takes as many turns as no run uses up.
+    for _ in 0..u64::MAX {
+        if reading.over {
+            break;
+        }
+        reading = read_on(rt.stdin(), &mut chunk, &mut line, reading);
+        tally = on_line(out, &line, reading, tally);
     }
-    report(&line, reading, tally);
+    report(out, &line, reading, tally);
 }
 
 // A chunk where the last one is used up, else bytes of it up to a line's end. A read that fails ends the list, and the number of rows then shows it.
-fn read_on(chunk: &mut [u8; 65536], line: &mut [u8; 65536], reading: Reading) -> Reading {
+fn read_on(
+    mut input: Stdin,
+    chunk: &mut [u8; 65536],
+    line: &mut [u8; 65536],
+    reading: Reading,
+) -> Reading {
     if !reading::is_used_up(reading) {
         return reading::take_line(line, chunk, reading);
     }
-    let got = libc::read(STDIN_FILENO, chunk);
-    let n = io::count(got, chunk);
+    let n = input.read(chunk).unwrap_or(0);
     reading::after_read(reading, n)
 }
 
 // The first line is the header.
-fn on_line(line: &[u8; 65536], reading: Reading, tally: Tally) -> Tally {
+fn on_line(out: Stdout, line: &[u8; 65536], reading: Reading, tally: Tally) -> Tally {
     if !reading.done {
         return tally;
     }
@@ -72,18 +78,18 @@ fn on_line(line: &[u8; 65536], reading: Reading, tally: Tally) -> Tally {
     } else {
         Verdict::Unreadable
     };
-    tally::on_verdict(tally, numbers::is_wrong(text), verdict)
+    tally::on_verdict(out, tally, numbers::is_wrong(text), verdict)
 }
 
 // A last line with no break may be cut short, and cannot be read.
-fn report(line: &[u8; 65536], reading: Reading, tally: Tally) {
+fn report(out: Stdout, line: &[u8; 65536], reading: Reading, tally: Tally) {
     let text = reading::text(line, reading);
     let last = if reading::is_cut(reading) {
-        tally::on_verdict(tally, numbers::is_wrong(text), Verdict::Unreadable)
+        tally::on_verdict(out, tally, numbers::is_wrong(text), Verdict::Unreadable)
     } else {
         tally
     };
-    tally::report_all(last);
+    tally::report_all(out, last);
 }
 
 // The call of a line.

@@ -1,6 +1,5 @@
 -- `find` meets its contract. The loop's invariant: the place from the start is the place from here on. The measure is what is left.
 -- Assumes nothing.
-use Prim.Native.Nat.{◌-◌}
 use Rattle.replay.proofs.Scans.{place_hit, place_miss, place_over}
 use native.Mathlib.Omega.{arith}
 use Rattle.replay.proofs.lists.find.Goals as goal

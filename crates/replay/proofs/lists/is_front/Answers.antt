@@ -1,6 +1,5 @@
 -- `is_front` meets its contract. The loop's invariant: the definition of the whole is that of the rest, from here on. The measure is
 -- what is left. Assumes nothing.
-use Prim.Native.Nat.{◌-◌}
 use Rattle.replay.proofs.Scans.{front_long, front_hit, front_miss, front_over}
 use mathlib.Core.Path.{sym, ◌∙◌}
 use native.Mathlib.Omega.{arith}

@@ -1,6 +1,5 @@
 -- `is_same` meets its contract. The loop's invariant: the definition of the whole is that of the rest, from here on. The measure is what
 -- is left. Assumes nothing.
-use Prim.Native.Nat.{◌-◌}
 use Rattle.scenario_lines.proofs.Scans.{equal_unlike, equal_hit, equal_miss, equal_over}
 use mathlib.Core.Path.{sym, ◌∙◌}
 use native.Mathlib.Omega.{arith}

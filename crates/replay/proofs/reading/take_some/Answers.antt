@@ -1,6 +1,5 @@
 -- `take_some` meets its contract. The loop's invariant: what is taken from the start is taken from here on. The measure is what is left of
 -- the chunk. Assumes nothing.
-use Prim.Native.Nat.{◌-◌}
 use Rattle.replay.proofs.Takes.{takes_last, takes_on, takes_over}
 use borrow.Author.Rules.{rules}
 use Rattle.replay.proofs.reading.take_some.Goals as goal
