@@ -1,6 +1,6 @@
 -- What a turn leaves, of the world that the reader left. Assumes nothing.
 use Prim.Native.Nat.{ℕ, ◌^◌, ◌-◌, ◌≤◌, min}
-use mathlib.Core.Path.{◌≡◌, refl, sym, ap, ◌∙◌}
+use mathlib.Core.Path.{◌≡◌, refl, ap, ◌∙◌}
 use mathlib.Core.List.{List}
 use native.Mathlib.Omega.{arith}
 use lib.ListN.{length, take}

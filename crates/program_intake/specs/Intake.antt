@@ -1,5 +1,5 @@
 -- A turn of a program that reads a scenario: the chunk in hand, and what the reader makes of it.
-use Rattle.std.specs.Prelude.{ℕ, ◌-◌, ◌^◌, ◌≤◌, min, ◌≡◌, Bool, true, false, ◌||◌, List, ℤ, pos, negsuc, length, take}
+use Rattle.std.specs.Prelude.{ℕ, ◌-◌, ◌^◌, min, ◌≡◌, Bool, true, false, ◌||◌, List, ℤ, pos, negsuc, length, take}
 use Rattle.io.specs.Counts.{clamp_len}
 use Rattle.cell.specs.declared.pred.Pred.TheVariants.{Any}
 use Rattle.program_chunks.specs.Chunks.{unread, stays, read_of, taken_to}
