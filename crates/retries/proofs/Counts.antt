@@ -1,12 +1,10 @@
 -- Counts of rows piece after piece. Assumes nothing.
 use Prim.Native.Nat.{ℕ, zero, suc, ◌+◌, ◌%◌, ◌^◌, ◌<◌}
-use mathlib.Core.Path.{◌≡◌, refl, ap, sym, ◌∙◌}
-use mathlib.Core.Bool.{Bool, true, false, ◌&&◌, cond}
+use mathlib.Core.Path.{◌≡◌, refl, ap, ◌∙◌}
+use mathlib.Core.Bool.{Bool, ◌&&◌}
 use mathlib.Core.List.{List, [], ◌∷◌, ◌++◌}
 use native.Mathlib.Omega.{arith}
-use lib.Dec.{eqb, ltb}
-use lib.ListN.{length, get_or, set, replicate}
-use Rattle.machine.specs.Words.{bit}
+use lib.ListN.{get_or, replicate}
 use Rattle.retries.specs.Rows.{counted}
 use Rattle.machine.specs.declared.Row.{Row}
 use Rattle.retries.proofs.Rows.{counted_append}

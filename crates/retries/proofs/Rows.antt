@@ -1,13 +1,12 @@
 -- Rows counted by a test, and rows read out of a list of words, from the k-th on.
-use Prim.Native.Nat.{ℕ, zero, suc, ◌+◌, ◌-◌, ◌*◌, ◌<◌, ◌≤◌}
+use Prim.Native.Nat.{ℕ, suc, ◌+◌, ◌-◌, ◌*◌, ◌<◌, ◌≤◌}
 use mathlib.Core.Path.{◌≡◌, refl}
 use mathlib.Core.Bool.{Bool}
 use mathlib.Core.List.{List, [], ◌∷◌, ◌++◌}
 use native.Mathlib.Omega.{arith}
-use lib.ListN.{length, get_or, drop}
+use lib.ListN.{drop}
 use lib.Seq.{drop-drop, get_or-drop}
 use Rattle.machine.specs.Names.{row_words}
-use Rattle.machine.specs.Words.{bit}
 use Rattle.machine.specs.declared.Row.{Row}
 use Rattle.retries.specs.Rows.{counted, row_at, rows_in}
 

@@ -1,5 +1,5 @@
 -- Scenario files, whole, with the answers that they print. Each is computed.
-use Rattle.std.specs.Prelude.{◌≡◌, List, [], ◌∷◌, ◌++◌, ℕ}
+use Rattle.std.specs.Prelude.{◌≡◌, List, [], ◌∷◌, ◌++◌}
 use Prim.Native.String.{String}
 use Rattle.scenario.specs.Cases.{file}
 use Rattle.why_prints.specs.Prints.{why_printed}

@@ -1,6 +1,5 @@
 -- `write_lines` meets its contract. The loop's invariant: the lines of the threads so far are stored. The measure is how many are left. Assumes
 -- nothing.
-use Prim.Native.Nat.{◌-◌}
 use mathlib.Core.Path.{◌≡◌}
 use native.Mathlib.Omega.{arith}
 use Rattle.machine.specs.Lists.{lists}
