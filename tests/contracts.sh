@@ -11,7 +11,8 @@ without() {
     # whether the clause, or a part of it, is an equation of what, whose other side names neither it nor anything at exit
     function equates(line, what,    start, at, other) {
         start = "< " what " ≡ "
-        gsub(/[({×] */, "&< ", line)
+        gsub(/[({] */, "&< ", line)
+        gsub(/ (×|in) /, "&< ", line)
         at = index(line, start)
         if (!at) return 0
         other = substr(line, at + length(start))

@@ -1,5 +1,5 @@
 -- What holds of every operation of the value cell.
-use Rattle.std.specs.Prelude.{ℕ, true, false, cond, ◌≡◌, eqb}
+use Rattle.std.specs.Prelude.{ℕ, cond, ◌≡◌, eqb}
 use Rattle.cell.specs.Access.{answer_of}
 use Rattle.cell.specs.Value.{is_full, put, take, borrow, did, on_cell, asks}
 use Rattle.atomic.specs.declared.CellId.{CellId}

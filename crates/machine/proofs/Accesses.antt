@@ -3,14 +3,13 @@
 use Prim.Native.Nat.{ℕ, ◌≤◌}
 use mathlib.Core.Path.{◌≡◌, refl, ap, subst, ◌∙◌}
 use mathlib.Core.Logic.{◌≢◌, inl, inr, ⊎_elim}
-use mathlib.Core.Bool.{true, false, cond, ◌||◌, false≢true}
+use mathlib.Core.Bool.{true, cond, ◌||◌, false≢true}
 use mathlib.Core.List.{List}
 use native.Mathlib.Omega.{arith}
 use lib.Dec.{eqb}
 use lib.ListN.{length, length-set}
 use lib.Seq.{get_or-set_same, get_or-set_other}
 use package.borrow.Author.Tests.{le-leb, eq-eqb, eqb-true, eqb-false}
-use Rattle.atomic.specs.Access as atomic
 use Rattle.atomic.specs.Permission.{keeps}
 use Rattle.cell.specs.Access.{answer_of, value_of}
 use Rattle.cell.specs.Value.{kept, is_full}

@@ -9,7 +9,7 @@ use lib.Dec.{eqb}
 use lib.ListN.{length}
 use package.borrow.Author.Tests.{ltb-true, lt-ltb, eqb-true, eqb-false, ne_eqb, not-true}
 use Rattle.machine.specs.Names.{release_write, script_too_long, wrong_lengths, wrong_code, longest_script}
-use Rattle.machine.specs.Lists.{Lent, total, scripts_of, wrong, long_thread, wrong_place, wrong_thread, list_checks, beside}
+use Rattle.machine.specs.Lists.{Lent, total, scripts_of, long_thread, wrong_place, wrong_thread, list_checks, beside}
 use Rattle.machine.specs.When.{OfLists, for_too_long, operations, values, records, no_code, unknown_code, stray_value, FirstLong, WrongAt, FirstWrong, BesideOthers}
 use Rattle.machine.proofs.Refusals.{Applies, Means, ◌and◌, either, either_fails}
 use Rattle.machine.proofs.Find.{found, first}

@@ -13,7 +13,7 @@ use Rattle.cell.specs.Value.{kept, is_full}
 use Rattle.cell.specs.Pred.{permits}
 use Rattle.machine.specs.Names.{release_write, into_inner}
 use Rattle.machine.specs.Words.{bit, is, is_at, begun, may_go, unbegun}
-use Rattle.machine.specs.Step.{Scripts, fits, entry_checks, entry_refusal, answer, step, settle, here, op_of, val_of, busy_of, busy, others}
+use Rattle.machine.specs.Step.{Scripts, fits, entry_checks, entry_refusal, answer, step, settle, here, op_of, val_of, busy_of, others}
 use Rattle.machine.specs.Sound.{is_into, inside_of, tally, Tally, KeptRec, Moves, Sound}
 use Rattle.machine.specs.Move.{Move, by_load_below, by_load_full, by_try_done, by_try_lost, by_check_clear, by_check_set, back, lend, release, by_exc_done, by_exc_lost, into_done, into_lost, by_wait_done, by_wait_more, take, take_last, put, store, drop_read, drop_write}
 use Rattle.machine.specs.declared.Did.{Did}

@@ -1,5 +1,5 @@
 -- The marked cases A to L, rows of one statement about the definitions.
-use Rattle.std.specs.Prelude.{ℕ, ◌+◌, ◌≡◌, true, false, List, [], ◌∷◌, ◌++◌, length, replicate}
+use Rattle.std.specs.Prelude.{ℕ, ◌≡◌, true, false, List, [], ◌∷◌, ◌++◌, length, replicate}
 use Rattle.atomic.specs.Cases.{CaseJ}
 use Rattle.cell.specs.declared.pred.Pred.{Pred}
 use Rattle.cell.specs.declared.pred.Pred.TheVariants.{Any, Either}

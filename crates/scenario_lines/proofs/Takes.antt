@@ -7,7 +7,7 @@ use native.Mathlib.Numerals.{add-one}
 use native.Mathlib.Omega.{arith}
 use lib.ListN.{length, get_or, drop, drop_of_length-le}
 use lib.Seq.{drop-cons}
-use Rattle.scenario_lines.specs.Held.{held, opened, held_after, line_after, Took, taking, one_byte_more, took, taken_from}
+use Rattle.scenario_lines.specs.Held.{opened, held_after, line_after, Took, taking, one_byte_more, took, taken_from}
 use Rattle.scenario_lines.specs.declared.bytes.Held.{Held}
 use Rattle.scenario_lines.specs.declared.bytes.Taken.{Taken}
 

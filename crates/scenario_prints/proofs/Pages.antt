@@ -34,6 +34,7 @@ joined (suc n) m (suc (suc zero)) l b e h = absurd (omega arith)
 joined (suc n) m (suc (suc (suc zero))) l b e h = absurd (omega arith)
 joined (suc n) m (suc (suc (suc (suc zero)))) l b e h = absurd (omega arith)
 joined (suc n) m (suc (suc (suc (suc (suc zero))))) l b e h = absurd (omega arith)
+joined (suc n) m (suc (suc (suc (suc (suc (suc k)))))) [] b e h = elim h [ ]
 joined (suc n) m (suc (suc (suc (suc (suc (suc k)))))) (t ∷ []) b e h = absurd (omega arith)
 joined (suc n) m (suc (suc (suc (suc (suc (suc k)))))) (t ∷ (a ∷ [])) b e h = absurd (omega arith)
 joined (suc n) m (suc (suc (suc (suc (suc (suc k)))))) (t ∷ (a ∷ (w ∷ []))) b e h = absurd (omega arith)

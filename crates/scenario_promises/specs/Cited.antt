@@ -6,7 +6,7 @@ use Rattle.scenario_lines.specs.contracts.bytes.finish as finish
 use Rattle.says.specs.Says.{OfCall, Says}
 use Rattle.scenario_read.specs.Feed.{World, fresh, most_words, feed, over, stop_of}
 use Rattle.scenario_read.specs.Code.{world_of}
-use Rattle.scenario_read.proofs as code
+use Rattle.scenario_read.specs.contracts as code
 use Rattle.scenario_promises.specs.Session.{Roomy, handed, took, wrote, Session}
 use Rattle.scenario_promises.specs.Whole.{all_turns, most_bytes, RoomFor}
 use Rattle.scenario_promises.specs.Chunks.{Stopped, HandedOver}

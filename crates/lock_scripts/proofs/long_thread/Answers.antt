@@ -1,6 +1,5 @@
 -- `long_thread` meets its contract. The loop's invariant: the search has come to t. The measure is the number of threads that are left.
 -- Assumes nothing.
-use Prim.Native.Nat.{◌-◌}
 use mathlib.Core.Path.{sym}
 use borrow.Author.Tests.{lt-ltb, le-ltb}
 use Rattle.lock_scripts.proofs.Finds.{passed, found, over}

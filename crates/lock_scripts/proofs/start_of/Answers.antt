@@ -1,6 +1,5 @@
 -- `start_of` meets its contract. The loop's invariant: the sum is the start of thread t, and not above `most`. The measure is the number of
 -- threads that are left. Assumes nothing.
-use Prim.Native.Nat.{◌-◌}
 use mathlib.Core.Path.{refl}
 use native.Mathlib.Omega.{arith}
 use Rattle.machine.specs.Lists.{total}

@@ -1,6 +1,5 @@
 -- `wrong_code` meets its contract. The loop's invariant: the search for the first thread has come to t, whose script starts at `from`. The
 -- measure is the number of threads that are left. Assumes nothing.
-use Prim.Native.Nat.{◌-◌}
 use mathlib.Core.Path.{refl, sym, ◌∙◌}
 use native.Mathlib.Omega.{arith}
 use lib.ListN.{length}

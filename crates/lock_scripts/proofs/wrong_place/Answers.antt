@@ -1,8 +1,6 @@
 -- `wrong_place` meets its contract. The loop's invariant: the search has come to k. The measure is the number of script places that are left.
 -- Assumes nothing.
-use Prim.Native.Nat.{◌-◌}
 use mathlib.Core.Path.{sym, ◌∙◌}
-use Rattle.machine.specs.Lists.{wrong}
 use Rattle.lock_scripts.proofs.Finds.{passed, found, over}
 use Rattle.lock_scripts.proofs.wrong_place.Goals as goal
 

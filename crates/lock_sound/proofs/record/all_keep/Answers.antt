@@ -1,5 +1,4 @@
 -- `all_keep` meets its contract. The loop's invariant: the test from here on, on the records that are left, is the whole test. Assumes nothing.
-use Prim.Native.Nat.{◌-◌}
 use mathlib.Core.Path.{◌≡◌, sym, ap, ◌∙◌}
 use mathlib.Core.Bool.{true, false}
 use native.Mathlib.Omega.{arith}

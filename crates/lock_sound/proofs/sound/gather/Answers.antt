@@ -1,6 +1,5 @@
 -- `gather` meets its contract. The loop's invariant: what is gathered, and the sums over the records that are left, are the sums over all.
 -- Assumes nothing.
-use Prim.Native.Nat.{◌-◌}
 use native.Mathlib.Omega.{arith}
 use Rattle.lock_sound.proofs.Gather.{sums_on, sums_over, sums_few}
 use Rattle.lock_sound.proofs.sound.gather.Goals as goal

@@ -1,6 +1,5 @@
 -- `take_line` meets its contract. The loop's invariant: what is taken from the start is taken from here on. The measure is what is left of the
 -- chunk. Assumes nothing.
-use Prim.Native.Nat.{◌-◌}
 use lib.ListN.{drop}
 use Rattle.scenario_lines.proofs.Takes.{took_opened, takes_last, takes_on, takes_over}
 use Rattle.scenario_lines.proofs.bytes.take_line.Goals as goal

@@ -1,5 +1,4 @@
 -- `comma` meets its contract. The loop's invariant: the definition of the whole is that of the rest, from here on. The measure is what is left. Assumes nothing.
-use Prim.Native.Nat.{◌-◌}
 use native.Mathlib.Omega.{arith}
 use Rattle.scenario_lines.proofs.Scans.{comma_hit, comma_miss, comma_over}
 use Rattle.scenario_lines.proofs.judge.comma.Goals as goal

@@ -1,5 +1,4 @@
 -- `scan_digits` meets its contract. The loop's invariant: the definition of the whole is that of the rest, from here on. The measure is what is left. Assumes nothing.
-use Prim.Native.Nat.{◌-◌}
 use mathlib.Core.Path.{sym, ◌∙◌}
 use native.Mathlib.Omega.{arith}
 use Rattle.scenario_lines.proofs.Scans.{scan_no, scan_is, scan_over}
