@@ -1,12 +1,11 @@
 -- A run that goes one entry further: the entry's step, its row after the others, in the trace list too.
 use Prim.Native.Nat.{ℕ, suc, ◌+◌, ◌*◌, ◌<◌, ◌≤◌}
-use mathlib.Core.Path.{◌≡◌, refl, ap, sym, ◌∙◌}
-use mathlib.Core.Bool.{Bool, cond}
-use mathlib.Core.List.{List, [], ◌∷◌, ◌++◌, append_assoc}
+use mathlib.Core.Path.{◌≡◌, refl, ◌∙◌}
+use mathlib.Core.List.{List, [], ◌∷◌, ◌++◌}
 use native.Mathlib.Omega.{arith}
 use lib.Dec.{eqb}
 use lib.ListN.{length, take, drop, get_or, length-append, length-drop}
-use lib.Seq.{sets, sets-eq, take-suc, take_at, drop_at, drop-append-add, drop-drop}
+use lib.Seq.{sets, sets-eq, take-suc, take_at, drop-append-add, drop-drop}
 use Rattle.machine.specs.Names.{row_words}
 use Rattle.machine.specs.Words.{bit}
 use Rattle.machine.specs.Step.{Scripts, step}

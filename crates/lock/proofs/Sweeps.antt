@@ -9,7 +9,7 @@ use lib.ListN.{length, take, drop, set, get_or, length-append, take-append-drop}
 use lib.Seq.{take_at, drop_at, length-take-le, length_front, set-append_left, get_or-take}
 use Rattle.machine.specs.Words.{unbegun}
 use Rattle.machine.specs.Lists.{Lent, start, scripts_of}
-use Rattle.machine.specs.Step.{Scripts, busy_of, busy, here, step}
+use Rattle.machine.specs.Step.{Scripts, busy_of, here, step}
 use Rattle.machine.specs.Drain.{Went, stays, after, until, sweep}
 use Rattle.machine.specs.declared.Lock.{Lock}
 use Rattle.machine.specs.declared.Rec.{Rec}

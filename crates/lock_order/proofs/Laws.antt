@@ -1,8 +1,8 @@
 -- The laws of the entries: what is written is machine's drain order, of which demand 3 is known.
-use Prim.Native.Nat.{ℕ, suc, ◌+◌, ◌*◌, ◌<◌, ◌≤◌}
+use Prim.Native.Nat.{ℕ, ◌*◌, ◌≤◌}
 use mathlib.Core.Path.{◌≡◌, refl, ap, sym, ◌∙◌}
 use mathlib.Core.Bool.{Bool, true, false}
-use mathlib.Core.List.{List, [], ◌∷◌, ◌++◌}
+use mathlib.Core.List.{List, [], ◌∷◌}
 use native.Mathlib.Omega.{arith}
 use lib.Dec.{eqb, ltb}
 use lib.ListN.{length, take, drop, length-append, length-drop}
@@ -22,7 +22,7 @@ use Rattle.machine.proofs.RunRule.{rows_length}
 use Rattle.lock.specs.ByValue.{run_refusal_of, run_of, drain_refusal_of, drain_of}
 use Rattle.lock.proofs.Refusing.{number_beside}
 use Rattle.lock.proofs.Draining.{none_of_run}
-use Rattle.lock_order.specs.Order.{no_room, order_refusal_of, OrderLeft, order_of}
+use Rattle.lock_order.specs.Order.{order_refusal_of, OrderLeft, order_of}
 use Rattle.lock_order.specs.Laws.{entries_of, Ordered, OrderIsDrain, RunOfOrder, RefusedOrder, OrderNumbers}
 use Rattle.lock_order.proofs.Ordering.{told, admitted, refused_first, no_room_lem, room_enough, refused_by, made}
 

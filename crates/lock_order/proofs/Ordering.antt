@@ -1,13 +1,13 @@
 -- The order as it is asked for: what the answer is by the refusal that drain gives, and by the room.
 use Prim.Native.Nat.{ℕ, ◌+◌, ◌<◌, ◌≤◌}
 use mathlib.Core.Path.{◌≡◌, refl, ap, sym, ◌∙◌}
-use mathlib.Core.Bool.{Bool, true, false, cond}
+use mathlib.Core.Bool.{Bool, true, false}
 use mathlib.Core.List.{List, [], ◌∷◌, ◌++◌}
 use native.Mathlib.Omega.{arith}
 use lib.Dec.{eqb, ltb}
 use lib.ListN.{length, take, drop}
 use lib.Seq.{sets, sets-eq, length-take-le}
-use package.borrow.Author.Tests.{eqb-true, eqb-false, ne_eqb, lt-ltb, le-ltb}
+use package.borrow.Author.Tests.{eqb-true, ne_eqb, lt-ltb, le-ltb}
 use Rattle.machine.specs.Refusals.{gives, lowest}
 use Rattle.machine.specs.Lists.{Lent, scripts_of, beside}
 use Rattle.machine.specs.Sound.{Sound}
@@ -18,7 +18,7 @@ use Rattle.machine.specs.declared.Rec.{Rec}
 use Rattle.machine.specs.declared.Refusal.{Refusal}
 use Rattle.machine.proofs.Refusals.{passed}
 use Rattle.machine.proofs.Exact.{drain_admits}
-use Rattle.lock.specs.ByValue.{run_refusal_of, drain_checks_of, drain_refusal_of, drain_of, bound_of}
+use Rattle.lock.specs.ByValue.{drain_checks_of, drain_refusal_of, drain_of, bound_of}
 use Rattle.lock.specs.Drain.{drained_of}
 use Rattle.lock.specs.declared.drain.DrainReturn.{DrainReturn}
 use Rattle.lock.proofs.Refusing.{earlier, later, number_beside, none_refused}

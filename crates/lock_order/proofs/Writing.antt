@@ -1,13 +1,12 @@
 -- Entries under way: one entry as a run of it, a thread's turn, the turns of a part, the three parts; and what the list gets.
 use Prim.Native.Nat.{ℕ, zero, suc, ◌+◌, ◌-◌, ◌<◌, ◌≤◌}
-use mathlib.Core.Path.{◌≡◌, refl, ap, sym, ◌∙◌}
+use mathlib.Core.Path.{◌≡◌, refl, sym, ◌∙◌}
 use mathlib.Core.Bool.{Bool, true, false}
-use mathlib.Core.List.{List, [], ◌∷◌, ◌++◌, append_assoc}
+use mathlib.Core.List.{List, [], ◌∷◌, ◌++◌}
 use native.Mathlib.Numerals.{add-one}
 use native.Mathlib.Omega.{arith}
-use lib.ListN.{length, take, drop, set, get_or, length-append, length-set, take-append-drop}
-use lib.Seq.{sets, length-sets, take_at, drop_at, length-take-le, length_front, get_or-take}
-use Rattle.machine.specs.Names.{most_threads}
+use lib.ListN.{length, take, drop, set, length-append, take-append-drop}
+use lib.Seq.{sets, take_at, drop_at, length-take-le, length_front, get_or-take}
 use Rattle.machine.specs.Words.{unbegun}
 use Rattle.machine.specs.Lists.{Lent, scripts_of}
 use Rattle.machine.specs.Step.{Scripts, here, step}
@@ -16,7 +15,6 @@ use Rattle.machine.specs.Run.{run, entries}
 use Rattle.machine.specs.Drain.{Went, stays, after, until, sweep}
 use Rattle.machine.specs.declared.Lock.{Lock}
 use Rattle.machine.specs.declared.Rec.{Rec}
-use Rattle.machine.proofs.Moves.{either_way}
 use Rattle.machine.proofs.Steps.{step_sound}
 use Rattle.machine.proofs.RunRule.{step_length}
 use Rattle.machine.proofs.SoundTest.{sound_tested}

@@ -1,5 +1,5 @@
 -- What is equal to one definition is equal.
-use mathlib.Core.Path.{◌≡◌, sym, ◌∙◌}
+use mathlib.Core.Path.{sym, ◌∙◌}
 use Rattle.lock_promises.specs.Outcome.{OneOutcome}
 
 pub one_outcome : OneOutcome

@@ -1,5 +1,5 @@
 -- The bytes may be cut anywhere, and they are held as the reader holds them. Assumes nothing.
-use Rattle.std.proofs.Common.{◌≡◌, ℕ, Bool, true, false, cond, List, [], ◌∷◌, ◌++◌, drop, refl, ap, ◌∙◌}
+use Rattle.std.proofs.Common.{◌≡◌, ℕ, Bool, true, false, cond, List, [], ◌∷◌, drop, refl, ap, ◌∙◌}
 use Rattle.scenario_lines.specs.Held.{held, unheld, held_after, line_after, Took, taking, one_byte_more, took}
 use Rattle.scenario_lines.specs.declared.bytes.Held.{Held}
 use Rattle.program_told.specs.Told.{through}

@@ -1,5 +1,5 @@
 -- A turn of the loop over bytes is one unfolding of `through`. Assumes nothing.
-use Rattle.std.proofs.Common.{◌≡◌, ℕ, ◌+◌, ◌<◌, ◌≤◌, List, [], ◌∷◌, length, get_or, drop, refl, add-one, drop_of_length-le, drop-cons}
+use Rattle.std.proofs.Common.{◌≡◌, ℕ, ◌+◌, ◌<◌, ◌≤◌, List, length, get_or, drop, add-one, drop_of_length-le, drop-cons}
 use Rattle.scenario_lines.specs.Held.{held_after}
 use Rattle.scenario_lines.specs.declared.bytes.Held.{Held}
 use Rattle.program_told.specs.Told.{anew, through}

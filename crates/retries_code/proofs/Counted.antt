@@ -52,3 +52,21 @@ one_row test r cs = go (test r) refl (ltb r.thread (length cs)) refl
     go true e true f = added test r 0 r.thread cs e (omega arith) (ltb-true _ _ f)
     go true e false f = past test r 0 cs (omega (arith, ltb-false r.thread (length cs) f))
     go false e b f = nothing_added test r 0 cs (λ u le. rw e refl)
+
+-- ---- the loop over rows
+none_more : (test : Row → Bool) (t : ℕ) (cs : List ℕ) → with_rows test t cs [] ≡ cs
+unfolding with_rows up_by counted
+none_more test t [] = refl
+none_more test t (c ∷ cs) = ap (λ (more : List ℕ). c ∷ more) (none_more test (t + 1) cs)
+
+module _ (test : Row → Bool) (trace : List ℕ) (n k : ℕ) (cs : List ℕ) where
+  -- one row of those that are left
+  pub row_more : k < n → with_rows test 0 cs (rows_from trace n k) ≡ with_rows test 0 (with_row test (row_at trace (row_words * k)) cs) (rows_from trace n (k + 1))
+  row_more h =
+      let r = row_at trace (row_words * k) in
+      ap (with_rows test 0 cs) (next_row trace n k h)
+      ∙ cut_anywhere test 0 cs (r ∷ []) (rows_from trace n (k + 1))
+      ∙ ap (λ (d : List ℕ). with_rows test 0 d (rows_from trace n (k + 1))) (one_row test r cs)
+
+  pub row_last : n ≤ k → with_rows test 0 cs (rows_from trace n k) ≡ cs
+  row_last h = ap (with_rows test 0 cs) (no_rows trace n k h) ∙ none_more test 0 cs

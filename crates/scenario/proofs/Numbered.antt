@@ -1,8 +1,8 @@
 -- Rows and lines are printed with their own numbers. Assumes nothing.
 use Prim.Native.Nat.{ℕ, ◌+◌}
 use mathlib.Core.Path.{ap, ◌∙◌}
-use mathlib.Core.List.{List, ◌++◌}
-use native.Mathlib.Nat.{zero-add, mod-eq_of_lt}
+use mathlib.Core.List.{◌++◌}
+use native.Mathlib.Nat.{mod-eq_of_lt}
 use native.Mathlib.Omega.{arith}
 use borrow.Author.Tests.{ne_eqb}
 use Rattle.scenario_text.specs.Lines.{row_text, refusal}

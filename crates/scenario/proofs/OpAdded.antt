@@ -12,12 +12,11 @@ use lib.Seq.{get_or-set_same, get_or-set_other, get_or-append_seam}
 use Rattle.cell.specs.declared.pred.Pred.{Pred}
 use Rattle.machine.specs.Names.{script_too_long, wrong_code, longest_script}
 use Rattle.machine.specs.Refusals.{lowest}
-use Rattle.machine.specs.Lists.{Lent, lists, total, scripts_of, find, wrong, long_thread, wrong_place, wrong_thread, list_checks}
+use Rattle.machine.specs.Lists.{Lent, total, scripts_of, find, wrong, long_thread, wrong_place, wrong_thread, list_checks}
 use Rattle.machine.specs.Setup.{setup_checks, setup_refusal}
 use Rattle.machine.proofs.Find.{found, first}
 use Rattle.machine.proofs.Refusals.{passed, not_so}
 use Rattle.scenario.specs.Scenario.{lent_with}
-use Rattle.scenario.specs.Refused.{at}
 use Rattle.scenario.proofs.Adds.{total_set, start_set, ends_last, inside}
 
 -- ---- a search, by what it searches for

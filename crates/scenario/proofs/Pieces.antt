@@ -1,6 +1,6 @@
 -- Pieces have the rows of the whole schedule. Assumes nothing.
 use Prim.Native.Nat.{ℕ, suc, ◌+◌, ◌%◌}
-use mathlib.Core.Path.{◌≡◌, refl, sym, ap, ◌∙◌}
+use mathlib.Core.Path.{◌≡◌, refl, sym}
 use mathlib.Core.List.{List, [], ◌∷◌, ◌++◌, append_assoc}
 use native.Mathlib.Omega.{arith}
 use lib.ListN.{length}

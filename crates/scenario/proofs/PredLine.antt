@@ -15,7 +15,7 @@ use Rattle.machine.specs.Refusals.{Check, gives, lowest}
 use Rattle.machine.specs.Lists.{Lent, lists, total, scripts_of, wrong_place, list_checks}
 use Rattle.machine.specs.Setup.{setup_refusal}
 use Rattle.machine.proofs.Refusals.{not_so}
-use Rattle.scenario.specs.Scenario.{Scenario, pred_of, taken}
+use Rattle.scenario.specs.Scenario.{pred_of, taken}
 use Rattle.scenario.specs.PredLine.{first_of, OfPred, names_none, OfLine}
 use Rattle.scenario.proofs.Adds.{total_none, none_there}
 use Rattle.scenario.proofs.OpAdded.{finds_none}

@@ -18,7 +18,6 @@ use Rattle.machine.proofs.Refusals.{passed}
 use Rattle.scenario.specs.Scenario.{Scenario, lent_with, with_op, taken}
 use Rattle.scenario_lines.specs.Lines.{lines, across}
 use Rattle.scenario_lines.specs.Judge.{judge}
-use Rattle.scenario_lines.specs.declared.Line.{Line}
 use Rattle.scenario_lines.specs.declared.Line.TheVariants.{Broken, Header, BadNumber, Lock, Pred as PredLine, Op, Run, NoKind}
 use Rattle.scenario.specs.declared.Stage.TheVariants.{Ops as AtOps}
 use Rattle.scenario.specs.Printed.{Reading, after_line, next, start}

@@ -10,7 +10,7 @@ use lib.Seq.{sets, sets-eq, take-length, take_all, drop-drop}
 use borrow.Author.Tests.{eqb-true, leb-true, leb-false}
 use Rattle.machine.specs.Names.{row_words}
 use Rattle.machine.specs.Lists.{Lent, scripts_of, beside}
-use Rattle.machine.specs.Run.{entries, RunLeft, made_run, refused_run, words_of}
+use Rattle.machine.specs.Run.{entries, RunLeft, made_run, refused_run}
 use Rattle.machine.proofs.RunRule.{rows_length}
 use Rattle.machine.proofs.Words.{words_length}
 use Rattle.lock.specs.ByValue.{run_of}

@@ -6,12 +6,11 @@ use Rattle.machine.specs.declared.Row.{Row}
 use Rattle.scenario_text.specs.Lines.{header, refusal}
 use Rattle.lock_promises.specs.Reached.{rows_in as rows_of_words}
 use Rattle.scenario.specs.Names.{counted_to}
-use Rattle.scenario_read.specs.declared.Stop.{Stop}
 use Rattle.scenario_read.specs.declared.Stop.TheVariants.{Refused, Over}
 use Rattle.scenario_prints.specs.Prints.{stop_text, place_of, stored_of}
 use Rattle.machine.proofs.Words.{words_length}
 use Rattle.lock_promises.proofs.Rows.{rows_read_back}
-use Rattle.scenario.specs.Printed.{rows_text, refusal_text, output, reading_of, rows_in, printed}
+use Rattle.scenario.specs.Printed.{rows_text, output, reading_of, rows_in, printed}
 use Rattle.scenario.proofs.Pieces.{rows_append, counted_rows}
 use Rattle.scenario_prints.specs.Laws.{RowsOfWords, CutAnywhere, NoneLost, PrintedIsRows, PrintedByReader}
 

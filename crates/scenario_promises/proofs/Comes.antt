@@ -8,7 +8,6 @@ use borrow.Author.Tests.{eqb-true}
 use lib.ListN.{length}
 use Rattle.scenario.specs.Refused.{stage_no, at as is_at}
 use Rattle.scenario.specs.Printed.{Reading, reading_of}
-use Rattle.scenario.specs.declared.Stage.{Stage}
 use Rattle.scenario.specs.declared.Stage.TheVariants.{Runs as AtRuns}
 use Rattle.scenario_stages.specs.Kept.{outline}
 use Rattle.scenario_stages.proofs.Means.{lock_means}

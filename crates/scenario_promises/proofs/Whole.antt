@@ -6,7 +6,7 @@ use mathlib.Core.List.{List, ◌++◌}
 use native.Mathlib.Omega.{arith}
 use lib.ListN.{length, take, drop, length-append, length-take, take-append-drop, drop_of_length-le}
 use Rattle.scenario_lines.specs.Held.{held_end}
-use Rattle.scenario_read.specs.Feed.{World, fresh, takes, moved, feed, over}
+use Rattle.scenario_read.specs.Feed.{World, fresh, takes, moved, feed}
 use Rattle.scenario_read.specs.declared.State.{State}
 use Rattle.scenario_read.specs.declared.Move.{Move}
 use Rattle.scenario_read.specs.declared.Move.TheVariants.{Stand, Piece, Gather, Line as ALine, Close, Rest}

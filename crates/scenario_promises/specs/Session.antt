@@ -2,7 +2,7 @@
 use Rattle.std.specs.Prelude.{ℕ, ◌+◌, ◌-◌, ◌%◌, ◌≤◌, ◌≡◌, ◌⊎◌, Bool, true, false, List, [], ◌++◌, length, take, drop}
 use Rattle.scenario_lines.specs.Bytes.{longest}
 use Rattle.machine.specs.Run.{words_of}
-use Rattle.scenario.specs.Printed.{Reading, reading_of, rows_in}
+use Rattle.scenario.specs.Printed.{reading_of, rows_in}
 use Rattle.scenario.specs.Names.{counted_to}
 use Rattle.scenario.specs.Pieces.{at_first, after_piece}
 use Rattle.scenario_stages.specs.Means.{Room}

@@ -1,15 +1,14 @@
 -- A run line that stands whole in the bytes: what the reader of lines makes of it, and what it says. Assumes nothing.
-use Rattle.std.proofs.Common.{◌≡◌, ℕ, suc, ◌+◌, ◌<◌, ◌≤◌, Bool, true, false, cond, not, ◌&&◌, ◌||◌, eqb, ltb, leb, List, [], ◌∷◌, ◌++◌, length, take, drop, set, sym, refl, ap, ◌∙◌, arith, length-append, take_at, le-ltb, lt-ltb, ne_eqb, leb-true}
+use Rattle.std.proofs.Common.{◌≡◌, ℕ, suc, ◌+◌, ◌<◌, ◌≤◌, Bool, true, false, not, ◌&&◌, eqb, leb, List, [], ◌∷◌, ◌++◌, length, set, sym, refl, ap, ◌∙◌, arith, le-ltb, lt-ltb, ne_eqb, leb-true}
 use mathlib.Core.Bool.{false≢true}
-use lib.Seq.{sets, sets-eq}
-use Rattle.scenario_lines.specs.Ascii.{bytes}
-use Rattle.scenario_lines.specs.Bytes.{longest, too_long}
+use lib.Seq.{sets}
+use Rattle.scenario_lines.specs.Bytes.{longest}
 use Rattle.scenario_lines.specs.Lines.{cr, lf}
 use Rattle.scenario_lines.specs.Chunks.{no_return}
 use Rattle.scenario_lines.specs.Number.{digit, digits, number, plainly, decimal}
-use Rattle.scenario_lines.specs.Judge.{comma, foul, clean, equal, fields, first, numbered, kinds, runs, judge}
+use Rattle.scenario_lines.specs.Judge.{comma, foul, clean, equal, fields, kinds, judge}
 use Rattle.scenario_lines.specs.Split.{plain}
-use Rattle.scenario_lines.specs.Held.{held, took, taking, one_byte_more, held_after, line_after, view}
+use Rattle.scenario_lines.specs.Held.{held, took, taking, one_byte_more, held_after, line_after}
 use Rattle.scenario_lines.specs.declared.Parsed.TheVariants.{Is}
 use Rattle.scenario_lines.specs.declared.Line.TheVariants.{Run}
 use Rattle.scenario_lines.proofs.Split.{field_split}

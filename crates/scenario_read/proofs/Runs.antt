@@ -1,11 +1,10 @@
 -- A run line whose entries have room is two moves, whatever chunk it is in: it is read, and its entries are gathered. So code may read such lines in
 -- a loop of its own, two turns a line. Assumes nothing.
-use Rattle.std.proofs.Common.{◌≡◌, ℕ, suc, ◌+◌, ◌-◌, ◌<◌, ◌≤◌, min, Bool, true, false, cond, not, ◌&&◌, ◌||◌, eqb, ltb, leb, List, length, drop, replicate, sym, refl, ap, ◌∙◌, arith, lt-ltb, ne_eqb, le-leb}
+use Rattle.std.proofs.Common.{◌≡◌, ℕ, suc, ◌+◌, ◌-◌, ◌<◌, ◌≤◌, min, Bool, true, false, ◌&&◌, ◌||◌, ltb, leb, List, length, drop, replicate, refl, ap, ◌∙◌, arith, lt-ltb, ne_eqb, le-leb}
 use borrow.Author.Tests.{lt-leb}
 use lib.Seq.{sets}
 use Rattle.scenario_lines.specs.Judge.{judge}
 use Rattle.scenario_lines.specs.Held.{unheld, Took, took, view}
-use Rattle.scenario_lines.specs.declared.Line.{Line}
 use Rattle.scenario_lines.specs.declared.Line.TheVariants.{Run}
 use Rattle.scenario.specs.Scenario.{with_run, taken}
 use Rattle.scenario.specs.declared.Stage.TheVariants.{Runs}
@@ -15,7 +14,7 @@ use Rattle.scenario_pieces.specs.Piece.{most_entries}
 use Rattle.scenario_read.specs.declared.State.{State}
 use Rattle.scenario_read.specs.declared.Move.{Move}
 use Rattle.scenario_read.specs.declared.Move.TheVariants.{Gather, Line as ALine}
-use Rattle.scenario_read.specs.Feed.{World, most_words, ready, roomy_move, what, state_with, more, gathers, takes, moved, rests, next_of, feed}
+use Rattle.scenario_read.specs.Feed.{World, most_words, ready, roomy_move, what, state_with, gathers, takes, moved, rests, next_of, feed}
 
 -- ---- what a run line leaves of what is read
 abbrev pub run_read : Read → ℕ → ℕ → Read

@@ -8,7 +8,6 @@ use Rattle.vcd.specs.Trace.{signals_in, of_rows, Lendable, words}
 use Rattle.vcd.specs.Write.{wrong, file_of, written, written_in}
 use Rattle.vcd.specs.Read.{Some, found, read, read_in}
 use Rattle.vcd.specs.declared.Signals.{Signals}
-use Rattle.vcd.specs.declared.Answer.{Answer}
 
 -- ---- exactly the files
 -- every waveform is found, with its signals

@@ -1,5 +1,5 @@
 -- The signals of a trace, and which signals a trace that can be lent has.
-use Rattle.std.specs.Prelude.{ℕ, zero, suc, ◌+◌, ◌-◌, ◌*◌, ◌/◌, ◌^◌, ◌<◌, ◌≤◌, List, [], ◌∷◌, length, get_or, drop}
+use Rattle.std.specs.Prelude.{ℕ, zero, suc, ◌-◌, ◌/◌, ◌^◌, ◌<◌, ◌≤◌, List, [], ◌∷◌, length, get_or, drop}
 use Rattle.machine.specs.Names.{row_words}
 use Rattle.machine.specs.declared.Row.{Row}
 use Rattle.vcd.specs.declared.Signals.{Signals}

@@ -1,5 +1,5 @@
 -- What the writer answers, and what it leaves.
-use Rattle.std.specs.Prelude.{ℕ, ◌%◌, Bool, true, false, ◌||◌, not, cond, List, [], ◌∷◌, eqb, ltb, leb, length}
+use Rattle.std.specs.Prelude.{ℕ, ◌%◌, Bool, false, ◌||◌, not, cond, List, [], ◌∷◌, eqb, ltb, leb, length}
 use Rattle.std.proofs.lemmas.List.Edits.{sets}
 use Rattle.machine.specs.Names.{row_words}
 use Rattle.vcd.specs.Wave.{waveform}

@@ -1,5 +1,5 @@
 -- The rows of a scenario file write the waveform of them. Assumes nothing.
-use Prim.Native.Nat.{ℕ, suc, ◌+◌, ◌*◌, ◌/◌, ◌^◌, ◌<◌, ◌≤◌}
+use Prim.Native.Nat.{ℕ, suc, ◌+◌, ◌*◌, ◌/◌, ◌^◌, ◌<◌}
 use mathlib.Core.Path.{◌≡◌, refl, sym, ap, ◌∙◌}
 use mathlib.Core.List.{List, [], ◌∷◌, ◌++◌, append_assoc, append-nil}
 use native.Mathlib.Omega.{arith}
@@ -12,7 +12,7 @@ use Rattle.machine.specs.declared.Row.{Row}
 use Rattle.scenario.specs.Printed.{rows_in}
 use Rattle.vcd.specs.Blocks.{front, change}
 use Rattle.vcd.specs.Wave.{at_first, close, time_of, counted, next, after, changes, waveform}
-use Rattle.vcd.specs.Trace.{most_rows, row_signals, AllWired, of_row, of_rows}
+use Rattle.vcd.specs.Trace.{row_signals, AllWired, of_row, of_rows}
 use Rattle.vcd.specs.declared.Signals.{Signals}
 use Rattle.vcd.specs.declared.Wave.{Wave}
 use Rattle.vcd.proofs.Laws.{counted_is_next}

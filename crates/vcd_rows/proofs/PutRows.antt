@@ -5,9 +5,7 @@ use mathlib.Core.List.{List, [], ◌∷◌, ◌++◌}
 use native.Mathlib.Omega.{arith}
 use lib.ListN.{length, drop, length-append}
 use lib.Seq.{get_or-drop, drop-drop, sets, length-sets}
-use borrow.Author.Tests.{le-leb, leb-true, leb-false}
-use mathlib.Core.Bool.{Bool, true, false}
-use lib.Dec.{leb}
+use borrow.Author.Tests.{le-leb}
 use Rattle.machine.specs.Names.{row_words}
 use Rattle.scenario_text.specs.Put.{Put, stored, place_after}
 use Rattle.scenario_text.proofs.Stores.{sets_append, puts}

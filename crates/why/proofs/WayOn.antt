@@ -33,10 +33,9 @@ use Rattle.machine.proofs.Sweep.{Base, small, unrefused}
 use Rattle.machine.proofs.TidyLaws.{tidy_is_kept}
 use Rattle.why.specs.Why.{why, has_flag, is_counted}
 use Rattle.why.specs.Reasons.{Because, not_waiting, count_full, count_changed, flag_held, flag_dropped, counted_by, counted_dropped, HasFlag, waits, takes, writes, puts, Counted, checks, backs, reads, NoneBelow, NoRecord, HeldBy, a_record, a_dropped_write, the_end, Names, holder, reader, MeetsReaders}
-use Rattle.why.specs.WayOn.{WayOut, ReadersLeave, all_out, one_out, WayOn, ReadersComeOut, NamedGoesOn, FullGoesDown, ChangedLooksAgain, NoneForDropped}
+use Rattle.why.specs.WayOn.{WayOut, all_out, one_out, WayOn, ReadersComeOut, NamedGoesOn, FullGoesDown, ChangedLooksAgain, NoneForDropped}
 use Rattle.why.specs.declared.Reason.{Reason}
 use Rattle.why.specs.declared.Reason.TheVariants.{NotWaiting, CountFull, CountChanged, Flag, Readers}
-use Rattle.why.specs.declared.Blocker.{Blocker}
 use Rattle.why.specs.declared.Blocker.TheVariants.{Record, Dropped}
 use Rattle.why.proofs.Where.{entered, at_wait}
 use Rattle.why.proofs.Means.{says_has_flag, says_counted}

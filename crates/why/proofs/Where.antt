@@ -1,6 +1,6 @@
 -- Where a waiting thread stands: the ways of the table that fail, by place, operation and lock; and that these are the failed rows.
 use Prim.Native.Nat.{ℕ}
-use mathlib.Core.Path.{◌≡◌, refl, sym, ap, subst, ◌∙◌}
+use mathlib.Core.Path.{◌≡◌, refl, sym, subst, ◌∙◌}
 use mathlib.Core.Logic.{◌≢◌, ◌⊎◌, inl, inr, ⊎_elim}
 use mathlib.Core.Bool.{true, false, true≢false}
 use mathlib.Core.List.{List}
@@ -20,7 +20,7 @@ use Rattle.machine.proofs.Accesses.{code_1, code_3, code_8, code_13, code_14}
 use Rattle.machine.proofs.Moves.{moves}
 use Rattle.machine.proofs.RunLaws.{row_says}
 use Rattle.machine.proofs.Steps.{MoveOf, passed}
-use Rattle.why.specs.Reasons.{Failed, as_sees_full, as_loses_count, as_meets_flag, as_meets_readers, Waits, Stuck, at_the_top, not_as_seen, sees_the_flag, finds_the_flag, is_not_alone, WaitsWhere}
+use Rattle.why.specs.Reasons.{Failed, as_sees_full, as_loses_count, as_meets_flag, as_meets_readers, Stuck, at_the_top, not_as_seen, sees_the_flag, finds_the_flag, is_not_alone, WaitsWhere}
 use Rattle.why.proofs.Reasons.{full_here, changed_here, up_here, readers_here}
 
 -- what an accepted entry leaves, and its row, are those of a way of the table

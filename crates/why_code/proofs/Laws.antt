@@ -1,7 +1,7 @@
 -- The checks of a run by value compare the count, and those over a list its length.
 use mathlib.Core.Path.{sym, ap}
 use Prim.Native.Nat.{ℕ}
-use lib.ListN.{length, take}
+use lib.ListN.{take}
 use lib.Seq.{length-take-le}
 use Rattle.machine.specs.Refusals.{lowest}
 use Rattle.machine.specs.Lists.{scripts_of}

@@ -40,8 +40,7 @@ loop-k-preserved c =
     let l = c.loop-k in
     let many = as_many s a.count l.g l.invariant.0 in
     let stop = stop_of a.stop (scripts_of s) in
-    let on = turned s a.count l.g l.invariant.0 stop a.fuel l.k l.out (omega (arith, many, c.loop-k-test.true)) in
-    (
+    let on = turned s a.count l.g l.invariant.0 stop a.fuel l.k l.out (omega (arith, many, c.loop-k-test.true)) in (
       c.until-g.ensures.able_2,
       subst (λ (x : Going). went_of a.count x (Part s a.count a.stop a.fuel x (l.k + 1) (a.count - (l.k + 1))) ≡ went_of a.count l.g (Part s a.count a.stop a.fuel l.g l.k (a.count - l.k))) (sym c.until-g.ensures.result_value) on.0
           ∙ l.invariant.1,

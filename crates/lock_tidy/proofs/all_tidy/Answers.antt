@@ -1,5 +1,4 @@
 -- `all_tidy` meets its contract. The loop's invariant: the test from here on, on the records that are left, is the whole test. Assumes nothing.
-use Prim.Native.Nat.{◌-◌}
 use mathlib.Core.Path.{sym, ◌∙◌}
 use native.Mathlib.Omega.{arith}
 use Rattle.lock_tidy.specs.Rests.{tidy_at}

@@ -1,5 +1,4 @@
 -- `rest_holds` meets its contract. The loop's invariant: the test from here on, with what is held here, is the whole test. Assumes nothing.
-use Prim.Native.Nat.{◌-◌}
 use mathlib.Core.Path.{◌≡◌, sym, ◌∙◌}
 use mathlib.Core.Bool.{true, false}
 use native.Mathlib.Omega.{arith}

@@ -1,6 +1,6 @@
 -- `go_through` meets its contract. The loop's invariant: what is held after the bytes that are left is what is held after all. The measure is how
 -- many are left. Assumes nothing.
-use Rattle.std.proofs.Common.{◌-◌, sym, refl, ◌∙◌}
+use Rattle.std.proofs.Common.{sym, refl, ◌∙◌}
 use Rattle.program_told.proofs.Lengths.{through_on, through_over}
 use Rattle.program_told.proofs.go_through.Goals as goal
 

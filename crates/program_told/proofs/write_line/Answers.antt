@@ -1,5 +1,5 @@
 -- `write_line` meets its contract. The loop's invariant: the bytes so far are stored. The measure is how many are left. Assumes nothing.
-use Rattle.std.proofs.Common.{◌≡◌, ℕ, ◌+◌, ◌-◌, ◌*◌, List, length, take, subst, arith, take_all}
+use Rattle.std.proofs.Common.{◌≡◌, ℕ, ◌+◌, ◌*◌, List, length, take, subst, arith, take_all}
 use Rattle.program_told.specs.Told.{listed}
 use Rattle.scenario_text.specs.Put.{Put}
 use Rattle.scenario_text.proofs.Stores.{both}

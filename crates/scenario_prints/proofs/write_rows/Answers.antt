@@ -1,6 +1,6 @@
 -- `write_rows` meets its contract. The loop's invariant: storing here the rows that are left is storing all of them at the start. The measure is
 -- how many are left. Assumes nothing.
-use Rattle.std.proofs.Common.{◌-◌, arith}
+use Rattle.std.proofs.Common.{arith}
 use Rattle.scenario_prints.proofs.PutRows.{begins, one_more, all_done}
 use Rattle.scenario_prints.proofs.write_rows.Goals as goal
 

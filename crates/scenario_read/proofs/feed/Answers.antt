@@ -1,6 +1,6 @@
 -- `feed` meets its contract. The loop's invariant: the moves that are left lead from here to where all of them lead from the start. The measure is
 -- how many turns are left. Assumes nothing.
-use Rattle.std.proofs.Common.{◌-◌, sym, refl, ◌∙◌, arith}
+use Rattle.std.proofs.Common.{sym, refl, ◌∙◌, arith}
 use Rattle.scenario_read.specs.Code.{world_of}
 use Rattle.scenario_read.proofs.Turns.{turned_out, turn_rests, turn_moves, lock_moves, other_moves}
 use Rattle.scenario_read.proofs.Worlds.{in_parts}

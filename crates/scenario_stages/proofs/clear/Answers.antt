@@ -1,5 +1,5 @@
 -- `clear` meets its contract. The loop's invariant: the first k places are 0. The measure is what is left. Assumes nothing.
-use Rattle.std.proofs.Common.{◌≡◌, ◌+◌, ◌-◌, length, set, refl, ap, ◌∙◌, add-one, arith}
+use Rattle.std.proofs.Common.{◌≡◌, ◌+◌, length, set, refl, ap, ◌∙◌, add-one, arith}
 use Rattle.scenario_stages.specs.Kept.{cleared}
 use Rattle.scenario_stages.proofs.Clears.{clears_one, clears_as_far, clears_length}
 use Rattle.scenario_stages.proofs.clear.Goals as goal

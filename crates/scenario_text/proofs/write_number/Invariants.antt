@@ -1,6 +1,6 @@
 -- `write_number` meets its contract. The loop's invariant: storing the digits of w here is storing those of v at the start, and p is the place
 -- after them. The measure is w. Assumes nothing.
-use Prim.Native.Nat.{◌+◌, ◌-◌, ◌^◌, ◌<◌}
+use Prim.Native.Nat.{◌+◌, ◌^◌, ◌<◌}
 use mathlib.Core.Path.{◌≡◌}
 use lib.ListN.{length}
 use lib.Seq.{sets}

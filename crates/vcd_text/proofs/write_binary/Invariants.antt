@@ -1,6 +1,6 @@
 -- `write_binary` meets its contract. The loop's invariant: storing the digits of w here is storing those of v at the start, and p is the place
 -- after them. The measure is w. Assumes nothing.
-use Rattle.std.proofs.Common.{◌≡◌, ◌+◌, ◌-◌, ◌^◌, ◌<◌, length}
+use Rattle.std.proofs.Common.{◌≡◌, ◌+◌, ◌^◌, ◌<◌, length}
 use lib.Seq.{sets}
 use Rattle.vcd.specs.Binary.{binary}
 use Rattle.vcd_text.proofs.write_binary.Given as goal

@@ -1,6 +1,5 @@
 -- `first_of` meets its contract. The loop's invariant: the search has come to k. The measure is the number of records that are left.
 -- Assumes nothing.
-use Prim.Native.Nat.{◌-◌}
 use mathlib.Core.Path.{◌≡◌, sym, ◌∙◌, ap}
 use native.Mathlib.Omega.{arith}
 use lib.ListN.{length, take}

@@ -1,5 +1,4 @@
 -- `cost` meets its contract. The loop's invariant: what is summed up, and the cost from here on, are the whole cost. Assumes nothing.
-use Prim.Native.Nat.{◌-◌}
 use mathlib.Core.Path.{◌≡◌}
 use native.Mathlib.Omega.{arith}
 use Rattle.machine.specs.Tidy.{price}

@@ -1,6 +1,6 @@
 -- `until` meets its contract. The loop's invariant: what is under way stays ready, and with the entries that are left it comes to what
 -- the whole comes to. Assumes nothing.
-use Prim.Native.Nat.{ℕ, ◌+◌, ◌-◌}
+use Prim.Native.Nat.{ℕ, ◌+◌}
 use mathlib.Core.Path.{◌≡◌}
 use lib.ListN.{length, take}
 use Rattle.machine.specs.Lists.{Lent, lists, scripts_of}

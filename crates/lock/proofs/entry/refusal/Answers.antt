@@ -1,6 +1,5 @@
 -- `refusal` meets its contract: each check that was passed, and the one that applies. Assumes nothing.
-use mathlib.Core.Path.{ap, sym, ◌∙◌}
-use mathlib.Core.Bool.{not}
+use mathlib.Core.Path.{sym, ◌∙◌}
 use borrow.Author.Tests.{le-leb, lt-leb}
 use Rattle.machine.specs.Refusals.{lowest}
 use Rattle.lock.specs.Turn.{turn_refusal}
@@ -18,7 +17,8 @@ pub returns : goal.returns
 unfolding turn_refusal lowest
 returns c =
     simp (
-      lt-leb _ _ c.if-len-rec.false, sym c.gone.ensures ∙ c.if-gone.false,
+      lt-leb _ _ c.if-len-rec.false,
+      sym c.gone.ensures ∙ c.if-gone.false,
       sym c.fits.ensures ∙ c.if-not-fits.false,
       sym c.others_are_busy.ensures ∙ c.if-others_are_busy.false,
       sym c.forbidden.ensures ∙ c.if-forbidden.false,
@@ -28,7 +28,8 @@ pub returns-then-forbidden : goal.returns-then-forbidden
 unfolding turn_refusal lowest
 returns-then-forbidden c =
     simp (
-      lt-leb _ _ c.if-len-rec.false, sym c.gone.ensures ∙ c.if-gone.false,
+      lt-leb _ _ c.if-len-rec.false,
+      sym c.gone.ensures ∙ c.if-gone.false,
       sym c.fits.ensures ∙ c.if-not-fits.false,
       sym c.others_are_busy.ensures ∙ c.if-others_are_busy.false,
       sym c.forbidden.ensures ∙ c.if-forbidden.true,

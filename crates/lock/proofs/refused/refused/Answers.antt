@@ -18,8 +18,8 @@ returns c =
     let l = take a.count a.recs in
     state_refuses s a.count a.lock l _ c.refused-why.ensures c.if-why-ne-NONE.false
     (elim c.else-some_and_few.branch [
-      else-some_and_few-via-then-some_and_few+else-is_sound w ↦ bad_state s a.lock l (sym w.is_sound.ensures ∙ w.if-is_sound.false)
-    | else-some_and_few-via-else-some_and_few w ↦ bad_number s a.lock l (sym c.some_and_few.ensures ∙ w.if-some_and_few.false)
+      | else-some_and_few-via-then-some_and_few+else-is_sound w ↦ bad_state s a.lock l (sym w.is_sound.ensures ∙ w.if-is_sound.false)
+      | else-some_and_few-via-else-some_and_few w ↦ bad_number s a.lock l (sym c.some_and_few.ensures ∙ w.if-some_and_few.false)
     ])
 
 pub returns-then-is_sound : goal.returns-then-is_sound

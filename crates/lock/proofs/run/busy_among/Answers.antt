@@ -1,5 +1,4 @@
 -- `busy_among` meets its contract. The loop's invariant: what is counted, and the sum over the records that are left, are the sum over all.
-use Prim.Native.Nat.{◌-◌}
 use native.Mathlib.Omega.{arith}
 use Rattle.machine.specs.Step.{busy_of}
 use Rattle.lock_words.proofs.Loops.{sum_on, sum_over}

@@ -1,6 +1,4 @@
 -- `run_ready` meets its contract. The loop's invariant: lock, records, counts and trace list are those after the first k entries.
-use Prim.Native.Nat.{◌-◌}
-use mathlib.Core.Logic.{⊎_elim}
 use native.Mathlib.Omega.{arith}
 use lib.ListN.{length, get_or}
 use Rattle.machine.specs.Lists.{lists, scripts_of, beside}
@@ -88,12 +86,12 @@ loop-k-preserved c =
     let t = get_or a.schedule.now g.k 0 in
     let e : Stepped (scripts_of s) (length a.lens.now) g.l g.rs t j.l j.rs j.busy j.row =
     elim j.branch [
-      then-t-count w ↦ rw (w.l-is, w.rs-is, w.busy-is, w.row-is)
-      (enters s a.lock a.recs a.schedule.now a.n a.trace.now g.l g.rs g.busy g.done g.k g.trace g.invariant c.requires.ready _ t _
-      w.if-t-count.true (starts.ensures t w.if-t-count.true) w.enter_at-e.ensures)
-    | else-t-count w ↦ rw (w.l-is, w.rs-is, w.busy-is, w.row-is)
-      (enters_not s a.lock a.recs a.schedule.now a.n a.trace.now g.l g.rs g.busy g.done g.k g.trace g.invariant c.requires.ready t _
-      w.if-t-count.false c.row_of-row.ensures)
+      | then-t-count w ↦ rw (w.l-is, w.rs-is, w.busy-is, w.row-is)
+          (enters s a.lock a.recs a.schedule.now a.n a.trace.now g.l g.rs g.busy g.done g.k g.trace g.invariant c.requires.ready _ t _
+          w.if-t-count.true (starts.ensures t w.if-t-count.true) w.enter_at-e.ensures)
+      | else-t-count w ↦ rw (w.l-is, w.rs-is, w.busy-is, w.row-is)
+          (enters_not s a.lock a.recs a.schedule.now a.n a.trace.now g.l g.rs g.busy g.done g.k g.trace g.invariant c.requires.ready t _
+          w.if-t-count.false c.row_of-row.ensures)
     ]
     in
     rw (c.one_if_zero-done.ensures.value, c.put_row.ensures)

@@ -1,5 +1,5 @@
 -- `starts_of` meets its contract. The loop's invariant: the sum is the start of thread t, cut, and the starts before it are written.
-use Prim.Native.Nat.{◌-◌, min}
+use Prim.Native.Nat.{min}
 use mathlib.Core.Path.{refl, ◌∙◌}
 use native.Mathlib.Omega.{arith}
 use lib.ListN.{length-set}

@@ -1,5 +1,4 @@
 -- `begin` meets its contract. The loop's invariant: the first k records are as setup makes them, the others as they were. Assumes nothing.
-use Prim.Native.Nat.{◌-◌}
 use native.Mathlib.Omega.{arith}
 use Rattle.lock.proofs.Begins.{fresh_more}
 use Rattle.lock.proofs.setup.begin.Goals as goal

@@ -1,6 +1,6 @@
 -- `number_at` meets its contract. The loop's invariant: the bytes so far are digits, and v is what they say. The measure is what v has to grow by:
 -- the first digit is not 0, so that each digit more makes it grow. Assumes nothing.
-use Rattle.std.proofs.Common.{◌-◌, arith}
+use Rattle.std.proofs.Common.{arith}
 use Rattle.scenario_read.proofs.Digits.{count_first, count_more, number_stands, zero_stands}
 use Rattle.scenario_read.proofs.peek.number_at.Goals as goal
 

@@ -1,6 +1,6 @@
 -- `copy` meets its contract. The loop's invariant: what is to be stored from the start is what is to be stored from here on. The measure is what is
 -- left. Assumes nothing.
-use Rattle.std.proofs.Common.{◌-◌, sym, refl, ◌∙◌, arith}
+use Rattle.std.proofs.Common.{sym, refl, ◌∙◌, arith}
 use Rattle.scenario_read.proofs.Places.{copies_one, copies_none}
 use Rattle.scenario_read.proofs.run_lines.copy.Goals as goal
 

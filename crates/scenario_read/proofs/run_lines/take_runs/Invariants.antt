@@ -1,6 +1,6 @@
 -- `take_runs` meets its contract. The loop's invariant: the lines so far lead from the start to here. The measure is how many turns are left.
 -- Assumes nothing.
-use Rattle.std.proofs.Common.{◌≡◌, ◌-◌, length}
+use Rattle.std.proofs.Common.{◌≡◌, length}
 use Rattle.scenario_lines.specs.Bytes.{longest}
 use Rattle.scenario_read.specs.Ahead.{Ahead}
 use Rattle.scenario_read.proofs.run_lines.take_runs.Given as goal

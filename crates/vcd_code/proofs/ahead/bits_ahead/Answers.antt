@@ -1,6 +1,5 @@
 -- `bits_ahead` meets its contract. The loop's invariant: the definition of the whole is that of the rest, from here on. The measure is what
 -- is left. Assumes nothing.
-use Prim.Native.Nat.{◌-◌}
 use mathlib.Core.Path.{refl, sym, ◌∙◌}
 use native.Mathlib.Omega.{arith}
 use lib.ListN.{get_or}

@@ -1,5 +1,4 @@
 -- `still` meets its contract. The loop's invariant: storing here what is left is storing all at the start. The measure is what is left. Assumes nothing.
-use Prim.Native.Nat.{◌-◌}
 use mathlib.Core.Path.{refl, sym, ◌∙◌}
 use native.Mathlib.Omega.{arith}
 use lib.ListN.{length-set}

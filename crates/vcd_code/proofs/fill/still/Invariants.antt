@@ -1,5 +1,5 @@
 -- `still` meets its contract. The loop's invariant: storing here what is left is storing all at the start. The measure is what is left. Assumes nothing.
-use Prim.Native.Nat.{◌+◌, ◌-◌, ◌*◌}
+use Prim.Native.Nat.{◌+◌, ◌*◌}
 use mathlib.Core.Path.{◌≡◌}
 use lib.ListN.{length, replicate}
 use lib.Seq.{sets}

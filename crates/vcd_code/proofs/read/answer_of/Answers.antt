@@ -1,6 +1,5 @@
 -- `answer_of` meets its contract. The loop's invariant: the answer for the whole is the answer from here on, t rows being read. The measure is what
 -- is left. Assumes nothing.
-use Prim.Native.Nat.{◌-◌}
 use mathlib.Core.Path.{sym, ◌∙◌}
 use native.Mathlib.Omega.{arith}
 use Rattle.vcd_code.proofs.BlocksOn.{rows_on, from_first}

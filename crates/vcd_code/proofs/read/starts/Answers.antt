@@ -1,6 +1,5 @@
 -- `starts` meets its contract. The loop's invariant: the definition of the whole is that of the rest, from here on. The measure is what is
 -- left. Assumes nothing.
-use Prim.Native.Nat.{◌-◌}
 use mathlib.Core.Path.{refl, sym, ◌∙◌}
 use native.Mathlib.Omega.{arith}
 use Rattle.vcd_code.proofs.Gather.{starts_short, starts_other, starts_on, starts_over}

@@ -1,5 +1,4 @@
 -- `store_rows` meets its contract. The loop's invariant: storing here what is ahead is storing all at the start. The measure is what is left. Assumes nothing.
-use Prim.Native.Nat.{◌-◌}
 use mathlib.Core.Path.{◌∙◌}
 use native.Mathlib.Omega.{arith}
 use Rattle.vcd_code.proofs.Passes.{begins, inside, room_on, one_more, all_done}

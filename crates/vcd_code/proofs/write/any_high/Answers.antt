@@ -1,6 +1,5 @@
 -- `any_high` meets its contract. The loop's invariant: the rows have a flag above 1 exactly where those that are left have one. The measure is how
 -- many are left. Assumes nothing.
-use Prim.Native.Nat.{◌-◌}
 use mathlib.Core.Path.{sym, ap, ◌∙◌}
 use native.Mathlib.Omega.{arith}
 use Rattle.vcd.specs.Write.{any_high}

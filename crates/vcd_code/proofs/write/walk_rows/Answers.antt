@@ -1,6 +1,5 @@
 -- `walk_rows` meets its contract. The loop's invariant: passing here the text of the rows that are left is passing all of it at the start. The
 -- measure is how many rows are left. Assumes nothing.
-use Prim.Native.Nat.{◌-◌}
 use mathlib.Core.Path.{refl}
 use native.Mathlib.Omega.{arith}
 use Rattle.vcd.specs.Wave.{at_first}
