@@ -1,15 +1,14 @@
 -- One row more, and the loop over rows. Assumes nothing.
-use Rattle.std.proofs.Common.{◌≡◌, ℕ, zero, suc, ◌+◌, ◌-◌, ◌*◌, ◌/◌, ◌%◌, ◌^◌, ◌<◌, ◌≤◌, Bool, true, false, cond, ◌&&◌, eqb, ltb, List, [], ◌∷◌, ◌++◌, length, get_or, set, sym, refl, ap, ◌∙◌, subst, arith, length-set}
-use package.borrow.Author.Tests.{eqb-true, eqb-false, ne_eqb, eq-eqb, ltb-true, ltb-false, lt-ltb, le-ltb}
+use Rattle.std.proofs.Common.{◌≡◌, ℕ, zero, suc, ◌+◌, ◌*◌, ◌%◌, ◌^◌, ◌<◌, ◌≤◌, Bool, true, false, cond, ◌&&◌, ltb, List, [], ◌∷◌, length, get_or, set, refl, ap, ◌∙◌, arith}
+use package.borrow.Author.Tests.{ne_eqb, eq-eqb, ltb-true, ltb-false}
 use Rattle.machine.specs.Names.{row_words}
-use Rattle.machine.specs.Words.{bit}
-use Rattle.retries.specs.Rows.{counted, row_at, rows_in, rows_of_words}
+use Rattle.retries.specs.Rows.{counted, row_at}
 use Rattle.machine.specs.declared.Row.{Row}
 use Rattle.retries.proofs.Rows.{rows_from, next_row, no_rows}
 use Rattle.retries.specs.Retries.{by}
 use Rattle.retries.specs.Counts.{up_by, with_rows}
 use Rattle.retries.proofs.Counts.{cut_anywhere}
-use Rattle.retries_code.specs.Code.{one_more, with_row}
+use Rattle.retries_code.specs.Code.{with_row}
 
 -- ---- one row
 neither : (a : Bool) → (a && false) ≡ false

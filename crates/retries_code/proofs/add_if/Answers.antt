@@ -9,6 +9,6 @@ returns-then-thread-counts c = rw (c.if-asked.true, lt-ltb _ _ c.if-thread-count
 pub returns-else-asked : goal.returns-else-asked
 returns-else-asked c =
     elim c.else-asked.branch [
-      else-asked-via-then-asked+else-thread-counts w ↦ rw (w.if-asked.true, le-ltb _ _ w.if-thread-counts.false)
-    | else-asked-via-else-asked w ↦ rw w.if-asked.false
+      | else-asked-via-then-asked+else-thread-counts w ↦ rw (w.if-asked.true, le-ltb _ _ w.if-thread-counts.false)
+      | else-asked-via-else-asked w ↦ rw w.if-asked.false
     ]

@@ -13,7 +13,7 @@ invariant-loop-k l =
       whole : l.n ≡ length l.trace / row_words;
       few : l.k ≤ l.n;
       lost_so : with_rows lost 0 l.initial.failed (rows_of_words l.trace) ≡ with_rows lost 0 l.failed (rows_from l.trace l.n l.k);
-      changed_so : with_rows changes 0 l.initial.changed (rows_of_words l.trace) ≡ with_rows changes 0 l.changed (rows_from l.trace l.n l.k)
+      changed_so : with_rows changes 0 l.initial.changed (rows_of_words l.trace) ≡ with_rows changes 0 l.changed (rows_from l.trace l.n l.k);
     }
 
 abbrev pub decreases-loop-k : goal.decreases-loop-k
