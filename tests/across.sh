@@ -1,5 +1,5 @@
 #!/bin/sh
-# Tries the edits in tests/across: each makes a function wrong in its body, its contract and its proof alike, so that its own crate is still
+# Tries the edits in tests/across: each makes a function wrong in its body and its contract alike, so that its own crate is still
 # proved. The crate that the edit names has a statement which cites that contract, and must refuse it. usage: tests/across.sh [EDIT...]
 # A must-fail edit of the kit rechecks the crate that it edits, and no other; hence this. It takes some minutes, and is no part of the gate.
 set -eu

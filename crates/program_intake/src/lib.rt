@@ -1,8 +1,8 @@
 // What the programs share that read a scenario: standard input, a chunk at a time, and the rows that come of it.
 #![tactic(auto)]
 
-ghost use Rattle.std.specs.Prelude.{◌≤◌, ◌≡◌, ◌||◌, length};
-ghost use Rattle.program_chunks.specs.Chunks.{stays};
+ghost use Rattle.std.specs.Prelude.{◌≤◌, ◌≡◌, ◌||◌, false, true, length, IfOk, IfErr};
+ghost use Rattle.program_chunks.specs.Chunks.{stays, read_of};
 ghost use Rattle.scenario_read.specs.Code.{fed_of};
 ghost use Rattle.scenario_promises.specs.Piped.{standing_of};
 ghost use Rattle.program_intake.specs.Intake.{nothing_taken, failed, turned, came_of, InHand};
@@ -11,7 +11,7 @@ use cell::pred::Pred;
 use program_chunks::Input;
 use scenario_pieces::Standing;
 use scenario_read::{Fed, State, Stop};
-use std::io::{Read, Stdin};
+use std::io::{self, Read, Stdin};
 
 // What is handed from turn to turn besides the lists.
 #[derive(Clone, Copy)]
@@ -52,7 +52,15 @@ pub fn read_chunk(mut source: Stdin, intake: Intake, chunk: &mut [u8]) -> Input
     if keeps(intake.full, input) {
         return input;
     }
-    match source.read(chunk) {
+    gave(source.read(chunk))
+}
+
+// What a read gave: so many bytes, or that it failed.
+fn gave(got: io::Result<usize>) -> Input
+    ensures ok { IfOk got (λ n. result ≡ read_of n false) }
+    ensures err { IfErr got (λ e. result ≡ read_of 0 true) }
+{
+    match got {
         Ok(n) => program_chunks::after_read(n, false),
         Err(_) => program_chunks::after_read(0, true),
     }
