@@ -193,9 +193,6 @@ def main(argv):
         new = turn_rt(text, to)
         if new != text:
             open(p, "w", encoding="utf-8").write(new)
-    with open("/tmp/respelled.txt", "w", encoding="utf-8") as f:
-        for a, b in sorted(to.items()):
-            f.write(f"{a} {b}\n")
     return 0
 
 
