@@ -25,8 +25,7 @@ use Rattle.cell.specs.Access.{Access as CellAccess}
 use Rattle.cell.specs.Value as cells
 use Rattle.cell.specs.declared.Refusal.TheVariants.{Foreign as CellForeign}
 use Rattle.cell.specs.declared.Answer.TheVariants.{Refused as RefusedCell}
-use Rattle.cell.specs.declared.value.Content.{Content}
-use Rattle.cell.specs.declared.value.Content.TheVariants.{Empty, Full}
+use Rattle.std.specs.Prelude.{None, Option, Some}
 use Rattle.cell.specs.declared.value.Perm.{Perm as PermCell}
 use Rattle.cell.proofs.ValueLaws as laws_cell
 use Rattle.atomic_lent.specs.Leaves as stated
@@ -81,13 +80,13 @@ of_flags (stated.ands n) was = fetched was _
 of_flags (stated.ors n) was = fetched was _
 of_flags (stated.xors n) was = fetched was _
 
-of_cells : {access : Content → CellAccess Content} → OfCells access → (was : Content) → Careful RefusedCell was (access was)
-of_cells (stated.puts v) Empty why e = cc
-of_cells (stated.puts v) (Full w) why e = refl
-of_cells stated.takes Empty why e = refl
-of_cells stated.takes (Full w) why e = cc
-of_cells stated.borrows Empty why e = refl
-of_cells stated.borrows (Full w) why e = refl
+of_cells : {access : Option ℕ → CellAccess (Option ℕ)} → OfCells access → (was : Option ℕ) → Careful RefusedCell was (access was)
+of_cells (stated.puts v) None why e = cc
+of_cells (stated.puts v) (Some w) why e = refl
+of_cells stated.takes None why e = refl
+of_cells stated.takes (Some w) why e = cc
+of_cells stated.borrows None why e = refl
+of_cells stated.borrows (Some w) why e = refl
 
 -- an answer that refuses is of a reply that does
 says64 : (r : Reply ℕ) (why : Refusal) → u64.answer r ≡ Refused64 why → r ≡ refused why
@@ -118,7 +117,7 @@ back8 q = record { id = q.id; value = u8.count q.value }
 abbrev back_flag : Permission Bool → PermBool
 back_flag q = record { id = q.id; value = q.value }
 
-abbrev back_cell : Permission Content → PermCell
+abbrev back_cell : Permission (Option ℕ) → PermCell
 back_cell q = record { id = q.id; content = q.value }
 
 pub refused_leaves : stated.RefusedLeaves

@@ -21,8 +21,7 @@ use Rattle.cell.specs.Value.{put, take, borrow, on_cell}
 use Rattle.cell.specs.declared.Refusal.{Refusal as CellRefusal}
 use Rattle.cell.specs.declared.Refusal.TheVariants.{Foreign as CellForeign}
 use Rattle.cell.specs.declared.Answer.TheVariants.{Value, Refused as RefusedCell}
-use Rattle.cell.specs.declared.value.Content.{Content}
-use Rattle.cell.specs.declared.value.Content.TheVariants.{Empty}
+use Rattle.std.specs.Prelude.{None, Option}
 use Rattle.cell.specs.declared.value.Perm.{Perm as PermCell}
 
 -- ---- what the functions ask for, one each: of `of_u64` and `of_u8`, at w bits
@@ -54,7 +53,7 @@ pub data OfFlags : (Bool → Access Bool) → Type 0 where
   xors : (n : Bool) → OfFlags (fetch_bool differ n)
 
 -- of `of_cell`
-pub data OfCells : (Content → CellAccess Content) → Type 0 where
+pub data OfCells : ((Option ℕ) → CellAccess (Option ℕ)) → Type 0 where
   puts : (v : ℕ) → OfCells (put v)
   takes : OfCells take
   borrows : OfCells borrow
@@ -65,7 +64,7 @@ RefusedLeaves =
     ((c : CellId) (p : Perm64) (access : ℕ → Access ℕ) (why : Refusal) → OfNumbers 64 access → (on_u64 c p access).answer ≡ Refused64 why → (on_u64 c p access).perm ≡ p)
     × ((c : CellId) (p : Perm8) (access : ℕ → Access ℕ) (why : Refusal) → OfNumbers 8 access → (on_u8 c p access).answer ≡ Refused8 why → (on_u8 c p access).perm ≡ p)
     × ((c : CellId) (p : PermBool) (access : Bool → Access Bool) (why : Refusal) → OfFlags access → (on_bool c p access).answer ≡ RefusedBool why → (on_bool c p access).perm ≡ p)
-    × ((c : CellId) (p : PermCell) (access : Content → CellAccess Content) (why : CellRefusal) → OfCells access → (on_cell c p access).answer ≡ RefusedCell why → (on_cell c p access).perm ≡ p)
+    × ((c : CellId) (p : PermCell) (access : Option ℕ → CellAccess (Option ℕ)) (why : CellRefusal) → OfCells access → (on_cell c p access).answer ≡ RefusedCell why → (on_cell c p access).perm ≡ p)
 
 -- a load and a borrow leave it as it was, refused or not
 abbrev pub LoadLeaves : Type 0
@@ -81,7 +80,7 @@ ForeignLeaves =
     ((c : CellId) (p : Perm64) (access : ℕ → Access ℕ) → (c.0 ≡ p.id.0 → ⊥) → on_u64 c p access ≡ record { perm = p; answer = Refused64 Foreign })
     × ((c : CellId) (p : Perm8) (access : ℕ → Access ℕ) → (c.0 ≡ p.id.0 → ⊥) → on_u8 c p access ≡ record { perm = p; answer = Refused8 Foreign })
     × ((c : CellId) (p : PermBool) (access : Bool → Access Bool) → (c.0 ≡ p.id.0 → ⊥) → on_bool c p access ≡ record { perm = p; answer = RefusedBool Foreign })
-    × ((c : CellId) (p : PermCell) (access : Content → CellAccess Content) → (c.0 ≡ p.id.0 → ⊥) → on_cell c p access ≡ record { perm = p; answer = RefusedCell CellForeign })
+    × ((c : CellId) (p : PermCell) (access : Option ℕ → CellAccess (Option ℕ)) → (c.0 ≡ p.id.0 → ⊥) → on_cell c p access ≡ record { perm = p; answer = RefusedCell CellForeign })
 
 -- whatever is asked, the permission stays that of its atomic or cell, so that it serves the next operation too
 abbrev pub IdentityStays : Type 0
@@ -89,7 +88,7 @@ IdentityStays =
     ((c : CellId) (p : Perm64) (access : ℕ → Access ℕ) → (on_u64 c p access).perm.id ≡ p.id)
     × ((c : CellId) (p : Perm8) (access : ℕ → Access ℕ) → (on_u8 c p access).perm.id ≡ p.id)
     × ((c : CellId) (p : PermBool) (access : Bool → Access Bool) → (on_bool c p access).perm.id ≡ p.id)
-    × ((c : CellId) (p : PermCell) (access : Content → CellAccess Content) → (on_cell c p access).perm.id ≡ p.id)
+    × ((c : CellId) (p : PermCell) (access : Option ℕ → CellAccess (Option ℕ)) → (on_cell c p access).perm.id ≡ p.id)
 
 -- two operations, one after the other, with one permission: what is stored is loaded, and what is put into an empty cell is taken
 abbrev pub StoredIsLoaded : Type 0
@@ -97,4 +96,4 @@ StoredIsLoaded =
     ((c : CellId) (p : Perm64) (v : ℕ) → c.0 ≡ p.id.0 → (on_u64 c (on_u64 c p (store v)).perm load).answer ≡ Old64 (count v))
     × ((c : CellId) (p : Perm8) (v : ℕ) → c.0 ≡ p.id.0 → (on_u8 c (on_u8 c p (store v)).perm load).answer ≡ Old8 (count8 v))
     × ((c : CellId) (p : PermBool) (v : Bool) → c.0 ≡ p.id.0 → (on_bool c (on_bool c p (store v)).perm load).answer ≡ OldBool v)
-    × ((c : CellId) (p : PermCell) (v : ℕ) → c.0 ≡ p.id.0 → p.content ≡ Empty → on_cell c (on_cell c p (put v)).perm take ≡ record { perm = p; answer = Value v })
+    × ((c : CellId) (p : PermCell) (v : ℕ) → c.0 ≡ p.id.0 → p.content ≡ None → on_cell c (on_cell c p (put v)).perm take ≡ record { perm = p; answer = Value v })

@@ -15,7 +15,7 @@ use Rattle.cell.specs.declared.Answer.TheVariants.{Value, Refused}
 use Rattle.cell.specs.declared.Refusal.TheVariants.{NotPermitted}
 use Rattle.cell.specs.declared.pred.Pred.{Pred}
 use Rattle.cell.specs.declared.inv.InvCell.{InvCell}
-use Rattle.cell.specs.declared.inv.Made.TheVariants.{Cell, NotMade}
+use Rattle.std.specs.Prelude.{Err, Ok}
 use Rattle.cell.proofs.PredLaws.{bad_permits_none}
 
 pub new_exact : NewExact
@@ -35,7 +35,7 @@ pub bad_makes_none : BadMakesNone
 bad_makes_none p v bad = rw (bad_permits_none p v bad)
 
 -- what `new` has made
-pub made : (p : Pred) (v : ℕ) (c : InvCell) (b : Bool) → cond b (Cell (holding p v)) (NotMade NotPermitted) ≡ Cell c → (c ≡ holding p v) × (b ≡ true)
+pub made : (p : Pred) (v : ℕ) (c : InvCell) (b : Bool) → cond b (Ok (holding p v)) (Err NotPermitted) ≡ Ok c → (c ≡ holding p v) × (b ≡ true)
 made p v c true e = (cc, refl)
 made p v c false e = (cc, cc)
 

@@ -6,7 +6,7 @@ use Rattle.cell.specs.Calls.{sets, replaces, call, after}
 use Rattle.cell.specs.declared.Refusal.TheVariants.{NotPermitted}
 use Rattle.cell.specs.declared.pred.Pred.TheVariants.{Either, Parity}
 use Rattle.cell.specs.declared.inv.InvCell.{InvCell}
-use Rattle.cell.specs.declared.inv.Made.TheVariants.{Cell, NotMade}
+use Rattle.std.specs.Prelude.{Err, Ok}
 
 -- a cell that may hold 5 or 13
 abbrev pub five_or_thirteen : ℕ → InvCell
@@ -21,23 +21,23 @@ odd v = holding (Parity 1) v
 abbrev pub SourceExamples : Type 0
 SourceExamples =
     -- example1: made with 5, read, set to 13, read again
-    (new 5 (Either 5 13) ≡ Cell (five_or_thirteen 5))
+    (new 5 (Either 5 13) ≡ Ok (five_or_thirteen 5))
     × (get (five_or_thirteen 5) ≡ 5)
     × (get (after (five_or_thirteen 5) (sets 13 ∷ [])) ≡ 13)
     × (value_of (call (five_or_thirteen 5) (replaces 13)).answer ≡ 5)
     -- 7 is refused by each, and nothing changes
-    × (new 7 (Either 5 13) ≡ NotMade NotPermitted)
+    × (new 7 (Either 5 13) ≡ Err NotPermitted)
     × (answer_of (call (five_or_thirteen 5) (sets 7)).answer ≡ 25)
     × (answer_of (call (five_or_thirteen 5) (replaces 7)).answer ≡ 25)
     × (into_inner (after (five_or_thirteen 5) (sets 7 ∷ replaces 7 ∷ [])) ≡ 5)
     -- example2: a cell for even numbers and one for odd ones
-    × (new 20 (Parity 0) ≡ Cell (even 20))
-    × (new 23 (Parity 1) ≡ Cell (odd 23))
+    × (new 20 (Parity 0) ≡ Ok (even 20))
+    × (new 23 (Parity 1) ≡ Ok (odd 23))
     × (get (even 20) ≡ 20)
     × (get (even 20) % 2 ≡ 0)
     × (get (odd 23) ≡ 23)
     × (get (odd 23) % 2 ≡ 1)
-    × (new 23 (Parity 0) ≡ NotMade NotPermitted)
-    × (new 20 (Parity 1) ≡ NotMade NotPermitted)
+    × (new 23 (Parity 0) ≡ Err NotPermitted)
+    × (new 20 (Parity 1) ≡ Err NotPermitted)
     -- no number has the rest 2 by 2
-    × (new 20 (Parity 2) ≡ NotMade NotPermitted)
+    × (new 20 (Parity 2) ≡ Err NotPermitted)

@@ -9,15 +9,15 @@ use Rattle.cell.specs.declared.Answer.{Answer}
 use Rattle.cell.specs.declared.Answer.TheVariants.{Value, Stored, Refused}
 use Rattle.cell.specs.declared.pred.Pred.{Pred}
 use Rattle.cell.specs.declared.inv.InvCell.{InvCell}
-use Rattle.cell.specs.declared.inv.Made.{Made}
-use Rattle.cell.specs.declared.inv.Made.TheVariants.{Cell, NotMade}
+use Rattle.std.specs.Prelude.{Err, Ok, Result}
+use Rattle.cell.specs.declared.Refusal.{Refusal}
 use Rattle.cell.specs.declared.inv.Did.{Did}
 
 abbrev pub holding : Pred → ℕ → InvCell
 holding p v = record { pred = p; value = v }
 
-abbrev pub new : ℕ → Pred → Made
-new v p = cond (permits p v) (Cell (holding p v)) (NotMade NotPermitted)
+abbrev pub new : ℕ → Pred → Result InvCell Refusal
+new v p = cond (permits p v) (Ok (holding p v)) (Err NotPermitted)
 
 -- p is the cell's predicate, and `was` the value in it
 abbrev pub replace : ℕ → Pred → ℕ → Access ℕ

@@ -9,14 +9,14 @@ use Rattle.cell.specs.declared.Refusal.TheVariants.{NotPermitted}
 use Rattle.cell.specs.declared.Answer.TheVariants.{Value, Stored, Refused}
 use Rattle.cell.specs.declared.pred.Pred.{Pred}
 use Rattle.cell.specs.declared.inv.InvCell.{InvCell}
-use Rattle.cell.specs.declared.inv.Made.TheVariants.{Cell, NotMade}
+use Rattle.std.specs.Prelude.{Err, Ok}
 
 -- a cell is made exactly of a permitted value
 abbrev pub NewExact : Type 0
 NewExact =
     (p : Pred) (v : ℕ) →
-    (permits p v ≡ true → new v p ≡ Cell (holding p v))
-    × (permits p v ≡ false → new v p ≡ NotMade NotPermitted)
+    (permits p v ≡ true → new v p ≡ Ok (holding p v))
+    × (permits p v ≡ false → new v p ≡ Err NotPermitted)
 
 -- the number of each answer, on any InvCell
 abbrev pub NumberedByPredicate : Type 0
@@ -38,8 +38,8 @@ pub record AsLastAccepted (p : Pred) (v : ℕ) (c : InvCell) (calls : List Call)
 
 -- every call of every sequence, since each has the calls before it and those after it
 abbrev pub HoldsLastAccepted : Type 0
-HoldsLastAccepted = (p : Pred) (v : ℕ) (c : InvCell) → new v p ≡ Cell c → (calls : List Call) → AsLastAccepted p v c calls
+HoldsLastAccepted = (p : Pred) (v : ℕ) (c : InvCell) → new v p ≡ Ok c → (calls : List Call) → AsLastAccepted p v c calls
 
 -- with a bad parameter there is no InvCell
 abbrev pub BadMakesNone : Type 0
-BadMakesNone = (p : Pred) (v : ℕ) → good p ≡ false → new v p ≡ NotMade NotPermitted
+BadMakesNone = (p : Pred) (v : ℕ) → good p ≡ false → new v p ≡ Err NotPermitted

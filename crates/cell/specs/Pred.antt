@@ -3,8 +3,7 @@
 use Rattle.std.specs.Prelude.{ℕ, ◌%◌, Bool, true, ◌||◌, cond, eqb, leb}
 use Rattle.cell.specs.declared.pred.Pred.{Pred}
 use Rattle.cell.specs.declared.pred.Pred.TheVariants.{Any, Either, Parity}
-use Rattle.cell.specs.declared.pred.Named.{Named}
-use Rattle.cell.specs.declared.pred.Named.TheVariants.{Known, Unknown}
+use Rattle.std.specs.Prelude.{None, Option, Some}
 
 unfoldable pub permits : Pred → ℕ → Bool
 permits Any v = true
@@ -16,8 +15,8 @@ good Any = true
 good (Either a b) = true
 good (Parity a) = leb a 1
 
-unfoldable pub of_kind : ℕ → ℕ → ℕ → Named
+unfoldable pub of_kind : ℕ → ℕ → ℕ → Option Pred
 of_kind kind a b =
-    cond (eqb kind 0) (Known Any)
-    (cond (eqb kind 1) (Known (Either a b))
-    (cond (eqb kind 2) (Known (Parity a)) Unknown))
+    cond (eqb kind 0) (Some Any)
+    (cond (eqb kind 1) (Some (Either a b))
+    (cond (eqb kind 2) (Some (Parity a)) None))

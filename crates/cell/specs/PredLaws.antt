@@ -3,7 +3,7 @@ use Rattle.std.specs.Prelude.{ℕ, ◌%◌, ◌≤◌, ◌<◌, true, false, ◌
 use Rattle.cell.specs.Pred.{permits, good, of_kind}
 use Rattle.cell.specs.declared.pred.Pred.{Pred}
 use Rattle.cell.specs.declared.pred.Pred.TheVariants.{Any, Either, Parity}
-use Rattle.cell.specs.declared.pred.Named.TheVariants.{Known, Unknown}
+use Rattle.std.specs.Prelude.{None, Some}
 
 abbrev pub AnyPermits : Type 0
 AnyPermits = (v : ℕ) → permits Any v ≡ true
@@ -27,10 +27,10 @@ ParityGood = (a : ℕ) → (good (Parity a) ≡ true) ↔ (a ≤ 1)
 abbrev pub Kinds : Type 0
 Kinds =
     (a b : ℕ) →
-    (of_kind 0 a b ≡ Known Any)
-    × (of_kind 1 a b ≡ Known (Either a b))
-    × (of_kind 2 a b ≡ Known (Parity a))
-    × ((kind : ℕ) → 2 < kind → of_kind kind a b ≡ Unknown)
+    (of_kind 0 a b ≡ Some Any)
+    × (of_kind 1 a b ≡ Some (Either a b))
+    × (of_kind 2 a b ≡ Some (Parity a))
+    × ((kind : ℕ) → 2 < kind → of_kind kind a b ≡ None)
 
 -- with a bad parameter no value is permitted, and with good ones some is
 abbrev pub BadPermitsNone : Type 0

@@ -9,7 +9,7 @@ use Rattle.cell.specs.declared.Refusal.TheVariants.{NotPermitted}
 use Rattle.cell.specs.declared.Answer.TheVariants.{Value, Stored, Refused}
 use Rattle.cell.specs.declared.pred.Pred.{Pred}
 use Rattle.cell.specs.declared.inv.InvCell.{InvCell}
-use Rattle.cell.specs.declared.inv.Made.TheVariants.{Cell, NotMade}
+use Rattle.std.specs.Prelude.{Err, Ok}
 
 abbrev pub predicate : InvCell → Pred
 predicate c = c.pred
@@ -25,7 +25,7 @@ WellFormed c = inv c c.value ≡ true
 -- the type invariant holds of what `new` makes, and every call keeps it
 abbrev pub TypeInvariant : Type 0
 TypeInvariant =
-    ((p : Pred) (v : ℕ) (c : InvCell) → new v p ≡ Cell c → WellFormed c)
+    ((p : Pred) (v : ℕ) (c : InvCell) → new v p ≡ Ok c → WellFormed c)
     × ((c : InvCell) (k : Call) → WellFormed c → WellFormed (call c k).cell)
 
 -- cell.predicate() is the constant of an invariant: no call changes it
@@ -36,8 +36,8 @@ KeepsPredicate = (c : InvCell) (k : Call) → predicate (call c k).cell ≡ pred
 abbrev pub New : Type 0
 New =
     (p : Pred) (v : ℕ) →
-    (permits p v ≡ true → (c : InvCell) × (new v p ≡ Cell c) × (predicate c ≡ p))
-    × (permits p v ≡ false → new v p ≡ NotMade NotPermitted)
+    (permits p v ≡ true → (c : InvCell) × (new v p ≡ Ok c) × (predicate c ≡ p))
+    × (permits p v ≡ false → new v p ≡ Err NotPermitted)
     × (number_of NotPermitted ≡ 25)
 
 -- requires self.inv(val): met, it returns; else 25, and the cell is as it was

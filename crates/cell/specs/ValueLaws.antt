@@ -6,7 +6,7 @@ use Rattle.atomic.specs.declared.CellId.{CellId}
 use Rattle.cell.specs.declared.Refusal.{Refusal}
 use Rattle.cell.specs.declared.Refusal.TheVariants.{Foreign}
 use Rattle.cell.specs.declared.Answer.TheVariants.{Value, Stored, Refused}
-use Rattle.cell.specs.declared.value.Content.TheVariants.{Empty}
+use Rattle.std.specs.Prelude.{None}
 use Rattle.cell.specs.declared.value.Perm.{Perm}
 use Rattle.cell.specs.declared.value.Op.{Op}
 
@@ -37,7 +37,7 @@ BorrowLeavesAll = (c : CellId) (p : Perm) → (on_cell c p borrow).perm ≡ p
 -- what is put into an empty cell is borrowed and taken again, and the take leaves the permission as it was before the put
 abbrev pub PutThenTake : Type 0
 PutThenTake =
-    (c : CellId) (p : Perm) (v : ℕ) → c.0 ≡ p.id.0 → p.content ≡ Empty →
+    (c : CellId) (p : Perm) (v : ℕ) → c.0 ≡ p.id.0 → p.content ≡ None →
     ((on_cell c p (put v)).answer ≡ Stored)
     × ((on_cell c (on_cell c p (put v)).perm borrow).answer ≡ Value v)
     × (on_cell c (on_cell c p (put v)).perm take ≡ record { perm = p; answer = Value v })

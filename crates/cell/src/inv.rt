@@ -13,12 +13,6 @@ pub struct InvCell {
     value: u64,
 }
 
-#[derive(Clone, Copy)]
-pub enum Made {
-    Cell(InvCell),
-    NotMade(Refusal),
-}
-
 // The cell as it is left, and the answer.
 #[derive(Clone, Copy)]
 pub struct Did {
@@ -26,13 +20,13 @@ pub struct Did {
     pub answer: Answer,
 }
 
-pub fn new(v: u64, pred: Pred) -> Made
+pub fn new(v: u64, pred: Pred) -> Result<InvCell, Refusal>
     ensures { result ≡ new v pred }
 {
     if pred::permits(pred, v) {
-        Made::Cell(InvCell { pred, value: v })
+        Ok(InvCell { pred, value: v })
     } else {
-        Made::NotMade(Refusal::NotPermitted)
+        Err(Refusal::NotPermitted)
     }
 }
 

@@ -13,14 +13,6 @@ pub enum Pred {
     Parity(u64),
 }
 
-// What a file's kind and two parameters name.
-#[derive(Clone, Copy)]
-pub enum Named {
-    Known(Pred),
-    // No kind has that number.
-    Unknown,
-}
-
 pub fn permits(p: Pred, v: u64) -> bool
     ensures { result ≡ permits p v }
 {
@@ -41,17 +33,17 @@ pub fn is_good(p: Pred) -> bool
     }
 }
 
-// Parameters that the kind has no use for are ignored.
-pub fn of_kind(kind: u64, a: u64, b: u64) -> Named
+// What a file's kind and two parameters name, if a kind has that number. Parameters that the kind has no use for are ignored.
+pub fn of_kind(kind: u64, a: u64, b: u64) -> Option<Pred>
     ensures { result ≡ of_kind kind a b }
 {
     if kind == 0 {
-        Named::Known(Pred::Any)
+        Some(Pred::Any)
     } else if kind == 1 {
-        Named::Known(Pred::Either(a, b))
+        Some(Pred::Either(a, b))
     } else if kind == 2 {
-        Named::Known(Pred::Parity(a))
+        Some(Pred::Parity(a))
     } else {
-        Named::Unknown
+        None
     }
 }

@@ -7,18 +7,11 @@ ghost use Rattle.cell.specs.Value.{put, take, borrow, kept, did, on_cell, asks};
 use super::{Answer, Refusal};
 use atomic::CellId;
 
-// An empty cell has no field for a number, so that none can keep one other than 0.
-#[derive(Clone, Copy)]
-pub enum Content {
-    Empty,
-    Full(u64),
-}
-
-// The permission holds the content.
+// The permission holds the content: the number in the cell, if there is one.
 #[derive(Clone, Copy)]
 pub struct Perm {
     pub id: CellId,
-    pub content: Content,
+    pub content: Option<u64>,
 }
 
 // An operation with its operand.
@@ -55,12 +48,12 @@ pub fn borrow(c: CellId, p: Perm) -> Did
 }
 
 // The number that a cell keeps, 0 in an empty one.
-pub fn kept(c: Content) -> u64
+pub fn kept(c: Option<u64>) -> u64
     ensures { result ≡ kept c }
 {
     match c {
-        Content::Empty => 0,
-        Content::Full(v) => v,
+        None => 0,
+        Some(v) => v,
     }
 }
 
@@ -80,32 +73,32 @@ fn act(p: Perm, op: Op) -> Did
 {
     let was = p.content;
     match was {
-        Content::Empty => on_empty(p, op),
-        Content::Full(v) => on_full(p, op, v),
+        None => on_empty(p, op),
+        Some(v) => on_full(p, op, v),
     }
 }
 
 fn on_empty(p: Perm, op: Op) -> Did
-    ensures { result ≡ did p (asks op Content.Empty) }
+    ensures { result ≡ did p (asks op None) }
 {
     match op {
-        Op::Put(v) => leave(p, Content::Full(v), Answer::Stored),
-        Op::Take => leave(p, Content::Empty, Answer::Refused(Refusal::IsEmpty)),
-        Op::Borrow => leave(p, Content::Empty, Answer::Refused(Refusal::IsEmpty)),
+        Op::Put(v) => leave(p, Some(v), Answer::Stored),
+        Op::Take => leave(p, None, Answer::Refused(Refusal::IsEmpty)),
+        Op::Borrow => leave(p, None, Answer::Refused(Refusal::IsEmpty)),
     }
 }
 
 fn on_full(p: Perm, op: Op, was: u64) -> Did
-    ensures { result ≡ did p (asks op (Content.Full was)) }
+    ensures { result ≡ did p (asks op (Some was)) }
 {
     match op {
-        Op::Put(_) => leave(p, Content::Full(was), Answer::Refused(Refusal::IsFull)),
-        Op::Take => leave(p, Content::Empty, Answer::Value(was)),
-        Op::Borrow => leave(p, Content::Full(was), Answer::Value(was)),
+        Op::Put(_) => leave(p, Some(was), Answer::Refused(Refusal::IsFull)),
+        Op::Take => leave(p, None, Answer::Value(was)),
+        Op::Borrow => leave(p, Some(was), Answer::Value(was)),
     }
 }
 
-fn leave(p: Perm, content: Content, answer: Answer) -> Did
+fn leave(p: Perm, content: Option<u64>, answer: Answer) -> Did
     ensures { result ≡ did p (record { leaves = content; answers = answer }) }
 {
     let id = p.id;

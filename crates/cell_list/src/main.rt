@@ -8,7 +8,7 @@
 use atomic::CellId;
 use cell::inv::Made;
 use cell::pred::Named;
-use cell::value::{Content, Perm};
+use cell::value::Perm;
 use cell::{Answer, Refusal, inv, pred, value};
 use replay::numbers::Stored;
 use replay::reading::Reading;
@@ -109,7 +109,7 @@ const PREDICATE: u64 = 9;
 // What the calls follow each other on.
 #[derive(Clone, Copy)]
 struct Cells {
-    content: Content,
+    content: Option<u64>,
     made: Made,
 }
 
@@ -148,13 +148,13 @@ enum Seen {
 // No cell holds anything before the first call.
 fn start_cells() -> Cells {
     Cells {
-        content: Content::Empty,
+        content: None,
         made: no_cell(),
     }
 }
 
 fn no_cell() -> Made {
-    Made::NotMade(Refusal::NotPermitted)
+    Err(Refusal::NotPermitted)
 }
 
 // A line that is no row counts as different, and makes the call of the numbers that it has, so that the rows after it follow on what
@@ -260,29 +260,29 @@ fn got_of(answer: Answer) -> u64 {
     }
 }
 
-fn is_full(content: Content) -> u64 {
+fn is_full(content: Option<u64>) -> u64 {
     match content {
-        Content::Empty => 0,
-        Content::Full(_) => 1,
+        None => 0,
+        Some(_) => 1,
     }
 }
 
 fn new(cells: Cells, call: Call) -> Seen {
-    let Named::Known(p) = pred::of_kind(call.a, call.b, call.c) else {
+    let Some(p) = pred::of_kind(call.a, call.b, call.c) else {
         return Seen::Nothing;
     };
     let content = cells.content;
     let made = inv::new(call.d, p);
     match made {
-        Made::Cell(_) => left_inv(content, made, 0, 0),
-        Made::NotMade(why) => left_inv(content, made, cell::number(why), 0),
+        Ok(_) => left_inv(content, made, 0, 0),
+        Err(why) => left_inv(content, made, cell::number(why), 0),
     }
 }
 
 // An InvCell is looked into by `get`.
-fn left_inv(content: Content, made: Made, number: u64, got: u64) -> Seen {
+fn left_inv(content: Option<u64>, made: Made, number: u64, got: u64) -> Seen {
     match made {
-        Made::Cell(c) => Seen::Told(
+        Ok(c) => Seen::Told(
             Cells { content, made },
             Told {
                 number,
@@ -291,7 +291,7 @@ fn left_inv(content: Content, made: Made, number: u64, got: u64) -> Seen {
                 kept: inv::get(c),
             },
         ),
-        Made::NotMade(_) => Seen::Told(
+        Err(_) => Seen::Told(
             Cells { content, made },
             Told {
                 number,
@@ -306,7 +306,7 @@ fn left_inv(content: Content, made: Made, number: u64, got: u64) -> Seen {
 fn on_inv(cells: Cells, call: Call) -> Seen {
     let content = cells.content;
     let made = cells.made;
-    let Made::Cell(c) = made else {
+    let Ok(c) = made else {
         return Seen::Nothing;
     };
     let code = call.code;
@@ -319,21 +319,21 @@ fn on_inv(cells: Cells, call: Call) -> Seen {
     }
 }
 
-fn left_did(content: Content, did: inv::Did) -> Seen {
+fn left_did(content: Option<u64>, did: inv::Did) -> Seen {
     let c = did.cell;
     let answer = did.answer;
-    left_inv(content, Made::Cell(c), number_of(answer), got_of(answer))
+    left_inv(content, Ok(c), number_of(answer), got_of(answer))
 }
 
 fn predicate(cells: Cells, call: Call) -> Seen {
     let told = match pred::of_kind(call.a, call.b, call.c) {
-        Named::Known(p) => Told {
+        Some(p) => Told {
             number: 0,
             got: bit(pred::permits(p, call.d)),
             full: 1,
             kept: bit(pred::is_good(p)),
         },
-        Named::Unknown => Told {
+        None => Told {
             number: 0,
             got: 0,
             full: 0,

@@ -19,7 +19,7 @@ use Rattle.machine.specs.Lists.{Lent, total, list_checks, beside}
 use Rattle.machine.specs.Setup.{fresh, setup_checks, setup_refusal, setup, setup_recs}
 use Rattle.machine.specs.declared.Rec.{Rec}
 use Rattle.machine.specs.declared.Refusal.{Refusal}
-use Rattle.machine.specs.declared.Start.TheVariants.{Made, Refused}
+use Rattle.std.specs.Prelude.{Err, Ok}
 use Rattle.machine.proofs.Refusals.{passed}
 use Rattle.lock_scripts.specs.Checks.{fit}
 use Rattle.lock.specs.ByValue.{put_back, setup_of}
@@ -86,11 +86,11 @@ module _ (q : Pred) (m v : ℕ) (s : Lent) (count : ℕ) (recs : List Rec) (why 
   pub records_most : why.number ≡ 0 → count ≤ 16
   records_most z = count_most q m v s count (sym number_is ∙ z)
 
-  pub made : why.number ≡ 0 → begun_of q m v s count recs ≡ record { start = Made (unused q m v); recs = put_back count recs (fresh count) }
+  pub made : why.number ≡ 0 → begun_of q m v s count recs ≡ record { start = Ok (unused q m v); recs = put_back count recs (fresh count) }
   unfolding setup setup_of
   made z = rw (← number_is, eq-eqb why.number 0 z) refl
 
-  pub kept : why.number ≢ 0 → begun_of q m v s count recs ≡ record { start = Refused why; recs = recs }
+  pub kept : why.number ≢ 0 → begun_of q m v s count recs ≡ record { start = Err why; recs = recs }
   unfolding setup setup_of
   kept some = rw (ne_eqb (setup_refusal q m v s count) 0 (λ z. some (number_is ∙ z)), ← e) refl
 

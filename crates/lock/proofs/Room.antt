@@ -7,8 +7,7 @@ use native.Mathlib.Omega.{arith}
 use lib.ListN.{length}
 use Rattle.cell.specs.Value.{is_full}
 use Rattle.cell.specs.declared.pred.Pred.{Pred}
-use Rattle.cell.specs.declared.value.Content.{Content}
-use Rattle.cell.specs.declared.value.Content.TheVariants.{Empty, Full}
+use Rattle.std.specs.Prelude.{None, Option, Some}
 use Rattle.machine.specs.Words.{bit, is, is_at, unbegun}
 use Rattle.machine.specs.Step.{Scripts, here}
 use Rattle.machine.specs.Sound.{Kept, Sound}
@@ -44,13 +43,13 @@ room S L l i h lt more short wide =
     }
 
 -- ---- at a place
-empty_of : (c : Content) → bit (is_full c) ≤ 0 → c ≡ Empty
-empty_of Empty h = refl
-empty_of (Full v) h = absurd (omega arith)
+empty_of : (c : Option ℕ) → bit (is_full c) ≤ 0 → c ≡ None
+empty_of None h = refl
+empty_of (Some v) h = absurd (omega arith)
 
 module _ (L : Lock) (r : Rec) (w : Room L r) where
   pub room_reads : r.place ≡ Reading → L.reads.0 + 1 < 2 ^ 64
   room_reads e = omega (arith, w.reads, ap (λ (p : Place). bit (is p Reading)) e)
 
-  pub room_cell : r.place ≡ Writing → L.cell ≡ Empty
+  pub room_cell : r.place ≡ Writing → L.cell ≡ None
   room_cell e = empty_of L.cell (omega (arith, w.cell, ap (λ (p : Place). bit (is p Writing)) e))

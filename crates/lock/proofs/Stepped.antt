@@ -10,8 +10,8 @@ use Rattle.machine.specs.Words.{unbegun}
 use Rattle.machine.specs.Step.{Scripts, here, busy_of, busy, others, op_of, val_of, answer, row_of, settle, step}
 use Rattle.machine.specs.declared.Lock.{Lock}
 use Rattle.machine.specs.declared.Rec.{Rec}
-use Rattle.machine.specs.declared.Out.{Out}
-use Rattle.machine.specs.declared.Out.TheVariants.{No, Yes}
+use Rattle.std.specs.Prelude.{Err, Ok, Result}
+use Rattle.machine.specs.declared.Did.{Did}
 use Rattle.machine.proofs.Sums.{sum_set, sum_at}
 use Rattle.lock.specs.Turn.{turn_of}
 use Rattle.lock.specs.Entered.{settled, entered_of}
@@ -30,12 +30,12 @@ module _ (S : Scripts) (L : Lock) (l : List Rec) (i : ℕ) where
   answered h = rw (others_are h) (answer_turn S L l i h)
 
   -- the same answer leaves the same
-  left : i < length l → (out : Out)
+  left : i < length l → (out : Result Did ℕ)
       → let x = settle L l i out in
       let e = settled L (here l i) i (busy l) out in
       (x.lock ≡ e.lock) × (x.recs ≡ set l i e.rec) × (x.row ≡ e.row) × (busy x.recs ≡ e.busy)
-  left h (No k) = (refl, sym (set-get_or l i unbegun), refl, refl)
-  left h (Yes d) = (refl, refl, refl, rw (others_are h) (omega (arith, sum_at (λ k r. busy_of r) l i d.rec unbegun refl h)))
+  left h (Err k) = (refl, sym (set-get_or l i unbegun), refl, refl)
+  left h (Ok d) = (refl, refl, refl, rw (others_are h) (omega (arith, sum_at (λ k r. busy_of r) l i d.rec unbegun refl h)))
 
   pub step_entered : i < length l
       → let x = step S L l i in

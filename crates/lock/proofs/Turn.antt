@@ -12,7 +12,7 @@ use Rattle.machine.specs.Refusals.{lowest}
 use Rattle.machine.specs.Step.{Scripts, here, others, op_of, val_of, entry_refusal, answer}
 use Rattle.machine.specs.declared.Lock.{Lock}
 use Rattle.machine.specs.declared.Rec.{Rec}
-use Rattle.machine.specs.declared.Out.TheVariants.{No}
+use Rattle.std.specs.Prelude.{Err}
 use Rattle.lock.specs.Turn.{turn_refusal, turn_of}
 
 -- a first check that would give a number is passed where the answer is 0
@@ -26,7 +26,7 @@ unfolding turn_refusal lowest
 going_on L r i n others o v e = leb-false n r.at (missed (leb n r.at) script_finished _ (omega arith) e)
 
 -- a finished script is refused whatever the lists have after it
-pub finished : (L : Lock) (r : Rec) (i n others o v : ℕ) → n ≤ r.at → turn_of L r i n others o v ≡ No script_finished
+pub finished : (L : Lock) (r : Rec) (i n others o v : ℕ) → n ≤ r.at → turn_of L r i n others o v ≡ Err script_finished
 unfolding turn_of turn_refusal lowest
 finished L r i n others o v h = rw (le-leb n r.at h)
 
@@ -35,6 +35,6 @@ module _ (S : Scripts) (L : Lock) (l : List Rec) (i : ℕ) where
   unfolding answer entry_refusal lowest turn_of turn_refusal
   answer_turn h = rw (lt-leb (length l) i h)
 
-  pub answer_none : length l ≤ i → answer S L l i ≡ No no_thread
+  pub answer_none : length l ≤ i → answer S L l i ≡ Err no_thread
   unfolding answer entry_refusal lowest
   answer_none h = rw (le-leb (length l) i h)

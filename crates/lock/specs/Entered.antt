@@ -6,8 +6,7 @@ use Rattle.machine.specs.Step.{busy_of, row_of}
 use Rattle.machine.specs.declared.Lock.{Lock}
 use Rattle.machine.specs.declared.Rec.{Rec}
 use Rattle.machine.specs.declared.Did.{Did}
-use Rattle.machine.specs.declared.Out.{Out}
-use Rattle.machine.specs.declared.Out.TheVariants.{No, Yes}
+use Rattle.std.specs.Prelude.{Err, Ok, Result}
 use Rattle.lock.specs.Turn.{turn_of}
 use Rattle.lock.specs.declared.entered.Entered.{Entered}
 
@@ -18,9 +17,9 @@ left_alone L r i busy k = record { lock = L; rec = r; busy = busy; row = row_of 
 abbrev pub changed : Did → ℕ → ℕ → Entered
 changed d i others = record { lock = d.lock; rec = d.rec; busy = others + busy_of d.rec; row = row_of i d.lock d.access 0 d.got }
 
-abbrev pub settled : Lock → Rec → ℕ → ℕ → Out → Entered
-settled L r i busy (No k) = left_alone L r i busy k
-settled L r i busy (Yes d) = changed d i (busy - busy_of r)
+abbrev pub settled : Lock → Rec → ℕ → ℕ → Result Did ℕ → Entered
+settled L r i busy (Err k) = left_alone L r i busy k
+settled L r i busy (Ok d) = changed d i (busy - busy_of r)
 
 -- thread i has the record r, a script of the length n, and there the operation o with the value v; so many records are not Idle
 unfoldable pub entered_of : Lock → Rec → ℕ → ℕ → ℕ → ℕ → ℕ → Entered

@@ -8,8 +8,8 @@ use Rattle.machine.specs.Refusals.{Check, gives, lowest}
 use Rattle.machine.specs.Step.{act, fits}
 use Rattle.machine.specs.declared.Lock.{Lock}
 use Rattle.machine.specs.declared.Rec.{Rec}
-use Rattle.machine.specs.declared.Out.{Out}
-use Rattle.machine.specs.declared.Out.TheVariants.{No, Yes}
+use Rattle.std.specs.Prelude.{Err, Ok, Result}
+use Rattle.machine.specs.declared.Did.{Did}
 use Rattle.machine.specs.declared.Place.TheVariants.{Writing}
 
 -- into_inner is finished, or another thread than i has begun it
@@ -38,7 +38,7 @@ turn_checks L r i n others o v =
 unfoldable pub turn_refusal : Lock → Rec → ℕ → ℕ → ℕ → ℕ → ℕ → ℕ
 turn_refusal L r i n others o v = lowest (turn_checks L r i n others o v)
 
-unfoldable pub turn_of : Lock → Rec → ℕ → ℕ → ℕ → ℕ → ℕ → Out
+unfoldable pub turn_of : Lock → Rec → ℕ → ℕ → ℕ → ℕ → ℕ → Result Did ℕ
 turn_of L r i n others o v =
     let k = turn_refusal L r i n others o v in
-    cond (eqb k 0) (Yes (act i L r r.place o v)) (No k)
+    cond (eqb k 0) (Ok (act i L r r.place o v)) (Err k)

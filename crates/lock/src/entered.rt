@@ -7,7 +7,7 @@ ghost use Rattle.lock.specs.Entered.{left_alone, changed, entered_of};
 
 use super::entry;
 use lock_words::names::{NO_ACCESS, NONE, SCRIPT_FINISHED};
-use machine::{Did, Lock, Out, Place, Rec, Row};
+use machine::{Did, Lock, Place, Rec, Row};
 
 #[derive(Clone, Copy)]
 pub(crate) struct Entered {
@@ -27,8 +27,8 @@ pub(crate) fn enter(lock: Lock, rec: Rec, i: u64, len: u64, busy: u64, op: u64, 
     let others = busy - busy_of(rec);
     let out = entry::turn(lock, rec, i, len, others, op, v);
     match out {
-        Out::No(k) => left_alone(lock, rec, i, busy, k),
-        Out::Yes(d) => changed(d, i, others),
+        Err(k) => left_alone(lock, rec, i, busy, k),
+        Ok(d) => changed(d, i, others),
     }
 }
 

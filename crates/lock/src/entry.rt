@@ -10,19 +10,19 @@ use lock_words::names::{
     ACQUIRE_READ, ACQUIRE_WRITE, BORROWS, DOES_NOT_FIT, DROP_HANDLE, INTO_INNER, LOCK_GONE, NONE,
     NOT_PERMITTED, OTHERS_BUSY, RELEASE_READ, RELEASE_WRITE, SCRIPT_FINISHED,
 };
-use machine::{Lock, Out, Place, Rec};
+use machine::{Did, Lock, Place, Rec};
 
 // Thread i has the record rec and a script of the length len, at its script place the operation op with the value v; of the other
 // records so many are not Idle.
-pub(crate) fn turn(lock: Lock, rec: Rec, i: u64, len: u64, others: u64, op: u64, v: u64) -> Out
+pub(crate) fn turn(lock: Lock, rec: Rec, i: u64, len: u64, others: u64, op: u64, v: u64) -> Result<Did, u64>
     requires { rec.at < len → Room lock rec }
     ensures { result ≡ turn_of lock rec i len others op v }
 {
     let k = refusal(lock, rec, i, len, others, op, v);
     if k == NONE {
-        Out::Yes(table::act(i, lock, rec, op, v))
+        Ok(table::act(i, lock, rec, op, v))
     } else {
-        Out::No(k)
+        Err(k)
     }
 }
 

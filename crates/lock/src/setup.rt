@@ -12,12 +12,12 @@ use cell::pred::Pred;
 use lock_words::names::{
     BAD_PREDICATE, FIRST_VALUE, MOST_THREADS, NONE, THREAD_COUNT, TOP_IS_ZERO,
 };
-use machine::{Place, Rec, Refusal, Start};
+use machine::{Lock, Place, Rec, Refusal};
 
 // What setup answers, and the records as it leaves them.
 #[derive(Clone, Copy)]
 pub struct Begun {
-    pub start: Start,
+    pub start: Result<Lock, Refusal>,
     pub recs: [Rec; 16],
 }
 
@@ -37,12 +37,12 @@ pub fn setup(
     let why = refused(pred, top, first, lens, ops, vals, count);
     if why.number == NONE {
         Begun {
-            start: Start::Made(lock_words::unused(pred, top, first)),
+            start: Ok(lock_words::unused(pred, top, first)),
             recs: begin(recs, count),
         }
     } else {
         Begun {
-            start: Start::Refused(why),
+            start: Err(why),
             recs,
         }
     }

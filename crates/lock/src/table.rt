@@ -1,7 +1,6 @@
 // The table of places and accesses: what an accepted entry does, and each outcome by the one access that it makes. Of a load and a
 // borrow only the answer is used; every other access's count, flag or cell goes into the lock.
 ghost use Rattle.std.specs.Prelude.{ℕ, ◌+◌, ◌<◌, ◌^◌, ◌≡◌};
-ghost use Rattle.cell.specs.declared.value.Content.TheVariants.{Empty};
 ghost use Rattle.machine.specs.Words.{next};
 ghost use Rattle.machine.specs.Step.{does, load_rc, try_rc, load_exc, back_done, lent, released, try_exc, wait_rc, taken, taken_last, put_done, stored, read_dropped, write_dropped, act};
 ghost use Rattle.lock.specs.Room.{Room};
@@ -12,7 +11,7 @@ use lock_words::names::{
     FAILS_EXC, FAILS_RC, GIVES_BACK, LOADS_EXC, LOADS_RC, NO, NOTHING, PUTS_CELL, RELEASE_READ,
     RELEASE_WRITE, RELEASES_RC, STORES_EXC, TAKES_CELL, WAITS_RC, YES,
 };
-use machine::{Did, Lock, Mover, Place, Rec};
+use machine::{Did, Lock, Place, Rec};
 
 // Thread i has the record rec, the operation op and its value v; the operation fits the place.
 pub(crate) fn act(i: u64, lock: Lock, rec: Rec, op: u64, v: u64) -> Did
@@ -42,7 +41,7 @@ fn at_idle(i: u64, lock: Lock, rec: Rec, op: u64) -> Did
     } else if op == ACQUIRE_WRITE {
         try_exc(lock, rec)
     } else {
-        try_exc(lock_words::with_mover(lock, Mover::By(i)), rec)
+        try_exc(lock_words::with_mover(lock, Some(i)), rec)
     }
 }
 

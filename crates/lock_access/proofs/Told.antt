@@ -10,8 +10,7 @@ use Rattle.atomic_u64.specs.U64.{answer}
 use Rattle.atomic_bool.specs.Bool.{answer as flag_reply}
 use Rattle.cell.specs.Access.{value_of}
 use Rattle.cell.specs.Value.{kept, put, take, borrow}
-use Rattle.cell.specs.declared.value.Content.{Content}
-use Rattle.cell.specs.declared.value.Content.TheVariants.{Empty, Full}
+use Rattle.std.specs.Prelude.{None, Option, Some}
 use Rattle.machine.specs.Words.{with_exc}
 use Rattle.machine.specs.declared.Lock.{Lock}
 use Rattle.lock_access.specs.Access.{on_count, on_flag, on_cell, count_answer, flag_answer}
@@ -45,17 +44,17 @@ pub raise_told : (exc : Bool) → flagged (compare_exchange beq false true exc) 
 raise_told true = refl
 raise_told false = refl
 
-pub borrow_told : (c : Content) → on_cell (value_of (borrow c).answers) (borrow c).leaves ≡ on_cell (kept c) c
-borrow_told Empty = refl
-borrow_told (Full v) = refl
+pub borrow_told : (c : Option ℕ) → on_cell (value_of (borrow c).answers) (borrow c).leaves ≡ on_cell (kept c) c
+borrow_told None = refl
+borrow_told (Some v) = refl
 
-pub take_told : (c : Content) → on_cell (value_of (take c).answers) (take c).leaves ≡ on_cell (kept c) Empty
-take_told Empty = refl
-take_told (Full v) = refl
+pub take_told : (c : Option ℕ) → on_cell (value_of (take c).answers) (take c).leaves ≡ on_cell (kept c) None
+take_told None = refl
+take_told (Some v) = refl
 
-pub put_told : (v : ℕ) (c : Content) → on_cell (value_of (put v c).answers) (put v c).leaves ≡ on_cell 0 (put v c).leaves
-put_told v Empty = refl
-put_told v (Full was) = refl
+pub put_told : (v : ℕ) (c : Option ℕ) → on_cell (value_of (put v c).answers) (put v c).leaves ≡ on_cell 0 (put v c).leaves
+put_told v None = refl
+put_told v (Some was) = refl
 
 -- a flag that is found as it is left changes nothing
 pub exc_kept : (L : Lock) (b : Bool) → L.exc ≡ b → with_exc L b ≡ L

@@ -7,7 +7,7 @@ use Rattle.atomic_bool.specs.declared.Did.{Did as FlagDid}
 use Rattle.atomic_bool.specs.declared.Answer.{Answer as FlagAnswer}
 use Rattle.atomic_bool.specs.declared.Answer.TheVariants.{Old as OldFlag, Failed as FailedFlag, Stored as StoredFlag, Refused as RefusedFlag}
 use Rattle.cell.specs.Access.{value_of}
-use Rattle.cell.specs.declared.value.Content.{Content}
+use Rattle.std.specs.Prelude.{Option}
 use Rattle.cell.specs.declared.value.Did.{Did as CellDid}
 use Rattle.machine.specs.Words.{count}
 use Rattle.lock_access.specs.declared.OnCount.{OnCount}
@@ -20,7 +20,7 @@ on_count done old left = record { done = done; old = count old; left = count lef
 abbrev pub on_flag : Bool → Bool → Bool → OnFlag
 on_flag done old left = record { done = done; old = old; left = left }
 
-abbrev pub on_cell : ℕ → Content → OnCell
+abbrev pub on_cell : ℕ → Option ℕ → OnCell
 on_cell got left = record { got = got; left = left }
 
 -- ---- of what an atomic or the cell says; the value is 0 or false where there is none

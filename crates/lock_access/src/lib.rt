@@ -8,7 +8,6 @@ ghost use Rattle.lock_access.specs.Access.{on_count, on_flag, on_cell, count_tol
 
 use atomic::{CellId, Count};
 use cell::value;
-use cell::value::Content;
 
 // The identities of the lock's two atomics and of its cell: three that differ.
 const COUNT: CellId = CellId(1);
@@ -37,7 +36,7 @@ pub struct OnFlag {
 #[derive(Clone, Copy)]
 pub struct OnCell {
     pub got: u64,
-    pub left: Content,
+    pub left: Option<u64>,
 }
 
 pub fn load_count(rc: Count) -> OnCount
@@ -102,7 +101,7 @@ pub fn clear_flag(exc: bool) -> OnFlag
     flag_told(atomic_bool::store(FLAG, perm, false))
 }
 
-pub fn borrow_cell(cell: Content) -> OnCell
+pub fn borrow_cell(cell: Option<u64>) -> OnCell
     ensures { result ≡ on_cell (kept cell) cell }
 {
     let perm = value::Perm {
@@ -112,8 +111,8 @@ pub fn borrow_cell(cell: Content) -> OnCell
     cell_told(value::borrow(CELL, perm))
 }
 
-pub fn take_cell(cell: Content) -> OnCell
-    ensures { result ≡ on_cell (kept cell) Content.Empty }
+pub fn take_cell(cell: Option<u64>) -> OnCell
+    ensures { result ≡ on_cell (kept cell) None }
 {
     let perm = value::Perm {
         id: CELL,
@@ -123,7 +122,7 @@ pub fn take_cell(cell: Content) -> OnCell
 }
 
 // A full cell stays as it is.
-pub fn put_cell(cell: Content, v: u64) -> OnCell
+pub fn put_cell(cell: Option<u64>, v: u64) -> OnCell
     ensures { result ≡ on_cell 0 (put v cell).leaves }
 {
     let perm = value::Perm {

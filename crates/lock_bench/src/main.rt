@@ -4,9 +4,8 @@
 
 use atomic::Count;
 use cell::pred::Pred;
-use cell::value::Content;
 use lock::run;
-use machine::{Lock, Mover, Place, Rec};
+use machine::{Lock, Place, Rec};
 use std::io::{Read, Stdin};
 
 // Nobody is served in it, and the state after it is the state before it.
@@ -66,12 +65,12 @@ fn begin() -> State {
     let lock = Lock {
         exc: false,
         rc: Count(0),
-        cell: Content::Full(5),
+        cell: Some(5),
         pred: Pred::Any,
         top: Count(2),
         reads: Count(0),
         writes: Count(0),
-        mover: Mover::Nobody,
+        mover: None,
         finished: false,
     };
     let state = State {

@@ -5,7 +5,7 @@
 
 use atomic::Count;
 use cell::pred::Pred;
-use machine::{Lock, Place, Rec, Refusal, Start};
+use machine::{Lock, Place, Rec, Refusal};
 use std::io::Stdout;
 
 const THREADS: u64 = 3;
@@ -28,8 +28,8 @@ fn main(rt: HostRuntime) {
     let start = begun.start;
     let recs = begun.recs;
     match start {
-        Start::Made(lock) => replay(to, &lens, &ops, &vals, lock, recs),
-        Start::Refused(why) => refused(to, why),
+        Ok(lock) => replay(to, &lens, &ops, &vals, lock, recs),
+        Err(why) => refused(to, why),
     }
 }
 

@@ -6,7 +6,7 @@ ghost use Rattle.machine.specs.Setup.{setup, setup_recs};
 use super::exchange;
 use atomic::Count;
 use cell::pred::Pred;
-use machine::{Rec, Start};
+use machine::{Lock, Rec, Refusal};
 
 // The records are made in their list.
 pub fn setup(
@@ -17,7 +17,7 @@ pub fn setup(
     ops: &[u64],
     vals: &[u64],
     recs: &mut [Rec],
-) -> Start
+) -> Result<Lock, Refusal>
     ensures value { result ≡ setup pred top.0 first (lists lens.now ops.now vals.now) (length recs.old) }
     ensures recs_after { recs.new ≡ setup_recs pred top.0 first (lists lens.now ops.now vals.now) recs.old }
 {

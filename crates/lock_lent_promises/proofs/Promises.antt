@@ -13,7 +13,7 @@ use Rattle.machine.specs.Drain.{drain_refusal, drain_lent}
 use Rattle.machine.specs.declared.Lock.{Lock}
 use Rattle.machine.specs.declared.Rec.{Rec}
 use Rattle.machine.specs.declared.Refusal.{Refusal}
-use Rattle.machine.specs.declared.Start.TheVariants.{Made, Refused}
+use Rattle.std.specs.Prelude.{Err, Ok}
 use Rattle.machine.proofs.Ends.{drain_rule}
 use Rattle.machine.proofs.RunRule.{run_rule}
 use Rattle.machine.proofs.Setup.{setup_is_sound}
@@ -31,12 +31,12 @@ use Rattle.lock_lent_promises.specs.Promises.{RefusedSetup, Unchanged, RefusedRu
 use Rattle.lock_lent_promises.proofs.Reached.{lent_is_reached}
 
 -- ---- demand 1
-made_refused : (L : Lock) (why : Refusal) → Made L ≡ Refused why → ⊥
+made_refused : (L : Lock) (why : Refusal) → Ok L ≡ Err why → ⊥
 made_refused L why e = let clash : ◌≡◌ {A = ℕ} 0 1 = cc in omega (arith, clash)
 
 pub refused_setup : RefusedSetup
 refused_setup s q m v l start l' why (is, list) e =
-    let refused : setup q m v s (length l) ≡ Refused why = sym is ∙ e in
+    let refused : setup q m v s (length l) ≡ Err why = sym is ∙ e in
     let some : setup_refusal q m v s (length l) ≢ 0 = λ none. made_refused _ why (sym (setup_is_sound q m v s l none).0 ∙ refused) in
     (list ∙ (setup_law q m v s l some).1, (setup_by_value s q m v (length l) l (begun_of q m v s (length l) l) why refl refused).1)
 

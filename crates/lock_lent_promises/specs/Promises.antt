@@ -8,8 +8,7 @@ use Rattle.machine.specs.declared.Lock.{Lock}
 use Rattle.machine.specs.declared.Rec.{Rec}
 use Rattle.machine.specs.declared.Row.{Row}
 use Rattle.machine.specs.declared.Refusal.{Refusal}
-use Rattle.machine.specs.declared.Start.{Start}
-use Rattle.machine.specs.declared.Start.TheVariants.{Refused}
+use Rattle.std.specs.Prelude.{Err, Result}
 use Rattle.lock_lent.specs.declared.run.LentRunReturn.{LentRunReturn}
 use Rattle.lock_lent.specs.declared.drain.LentDrainReturn.{LentDrainReturn}
 use Rattle.lock_promises.specs.Reached.{row_in, Reached}
@@ -24,8 +23,8 @@ LentIsReached = (s : Lent) (q : Pred) (m v : ℕ) (L : Lock) (l : List Rec) (row
 -- ---- demand 1: a refused call changes nothing that is lent
 abbrev pub RefusedSetup : Type 0
 RefusedSetup =
-    (s : Lent) (q : Pred) (m v : ℕ) (l : List Rec) (start : Start) (l' : List Rec) (why : Refusal)
-    → GivenBySetup s q m v l start l' → start ≡ Refused why
+    (s : Lent) (q : Pred) (m v : ℕ) (l : List Rec) (start : Result Lock Refusal) (l' : List Rec) (why : Refusal)
+    → GivenBySetup s q m v l start l' → start ≡ Err why
     → (l' ≡ l) × (why.number ≢ 0)
 
 -- what is left where nothing changed: no entry, no row

@@ -10,8 +10,8 @@ use Rattle.machine.specs.Drain.{Order, drain_lent}
 use Rattle.machine.specs.declared.Lock.{Lock}
 use Rattle.machine.specs.declared.Rec.{Rec}
 use Rattle.machine.specs.declared.Row.{Row}
-use Rattle.machine.specs.declared.Start.{Start}
-use Rattle.machine.specs.declared.Start.TheVariants.{Made}
+use Rattle.std.specs.Prelude.{Ok, Result}
+use Rattle.machine.specs.declared.Refusal.{Refusal}
 use Rattle.lock_lent.specs.Run.{ran_of, rest_lent, rest_lent_trace, step_lent}
 use Rattle.lock_lent.specs.Drain.{drained_of}
 use Rattle.lock_lent.specs.declared.run.LentRunReturn.{LentRunReturn}
@@ -33,14 +33,14 @@ GivenByRest s L l schedule budget used trace =
 abbrev pub GivenByStep : Lent → Lock → List Rec → ℕ → List ℕ → LentRunReturn → List Rec → List ℕ → Type 0
 GivenByStep s L l i trace = let left = step_lent s L l i trace in Gives left left.trace
 
-abbrev pub GivenBySetup : Lent → Pred → ℕ → ℕ → List Rec → Start → List Rec → Type 0
+abbrev pub GivenBySetup : Lent → Pred → ℕ → ℕ → List Rec → Result Lock Refusal → List Rec → Type 0
 GivenBySetup s q m v l start l' = (start ≡ setup q m v s (length l)) × (l' ≡ setup_recs q m v s l)
 
 abbrev pub GivenByDrain : Lent → Lock → List Rec → LentDrainReturn → List Rec → Type 0
 GivenByDrain s L l d l' = (d ≡ drained_of (drain_lent s L l)) × (l' ≡ (drain_lent s L l).recs)
 
 pub data ReachedLent (s : Lent) (q : Pred) (m v : ℕ) : Lock → List Rec → List Row → Type 0 where
-  begun : (l : List Rec) (start : Start) (l' : List Rec) (L : Lock) → GivenBySetup s q m v l start l' → start ≡ Made L
+  begun : (l : List Rec) (start : Result Lock Refusal) (l' : List Rec) (L : Lock) → GivenBySetup s q m v l start l' → start ≡ Ok L
       → ReachedLent s q m v L l' []
   ran : {L : Lock} {l : List Rec} {rows : List Row} → ReachedLent s q m v L l rows
       → (schedule : List ℕ) (budget : ℕ) (trace : List ℕ) (r : LentRunReturn) (l' : List Rec) (trace' : List ℕ)

@@ -11,8 +11,8 @@ use Rattle.machine.specs.Run.{words_of}
 use Rattle.machine.specs.When.{AtEntry, AtRun, AtDrain}
 use Rattle.machine.specs.declared.Lock.{Lock}
 use Rattle.machine.specs.declared.Rec.{Rec}
-use Rattle.machine.specs.declared.Start.{Start}
-use Rattle.machine.specs.declared.Start.TheVariants.{Made}
+use Rattle.std.specs.Prelude.{Ok, Result}
+use Rattle.machine.specs.declared.Refusal.{Refusal}
 use Rattle.lock_lent.specs.declared.run.LentRunReturn.{LentRunReturn}
 use Rattle.lock_lent.specs.declared.drain.LentDrainReturn.{LentDrainReturn}
 use Rattle.lock_promises.specs.Runs.{IsRun}
@@ -75,12 +75,12 @@ RefusedEntry =
 -- ---- the refusals are exact; and the state after setup
 abbrev pub SetupAnswer : Type 0
 SetupAnswer =
-    (s : Lent) (q : Pred) (m v : ℕ) (l : List Rec) (start : Start) (l' : List Rec) → GivenBySetup s q m v l start l'
+    (s : Lent) (q : Pred) (m v : ℕ) (l : List Rec) (start : Result Lock Refusal) (l' : List Rec) → GivenBySetup s q m v l start l'
     → SetupSays q m v s (length l) start
 
 abbrev pub SetupState : Type 0
 SetupState =
-    (s : Lent) (q : Pred) (m v : ℕ) (l : List Rec) (start : Start) (l' : List Rec) (L : Lock) → GivenBySetup s q m v l start l' → start ≡ Made L
+    (s : Lent) (q : Pred) (m v : ℕ) (l : List Rec) (start : Result Lock Refusal) (l' : List Rec) (L : Lock) → GivenBySetup s q m v l start l' → start ≡ Ok L
     → BeginsWith q m v L (length l) l'
 
 abbrev pub RunAnswer : Type 0

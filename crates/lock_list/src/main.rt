@@ -8,14 +8,13 @@
 
 use atomic::Count;
 use cell::pred::{Named, Pred};
-use cell::value::Content;
 use cell::{pred, value};
 use lock::drain::DrainReturn;
 use lock::run::RunReturn;
 use lock::setup::Begun;
 use lock::{drain, run, setup};
 use lock_words::names::UNSOUND;
-use machine::{Lock, Mover, Place, Rec, Refusal, Start};
+use machine::{Lock, Place, Rec, Refusal};
 use replay::lists::{is_same, word};
 use replay::numbers::Stored;
 use replay::reading::Reading;
@@ -221,8 +220,8 @@ fn after_setup(begun: Begun, given: Lock) -> Told {
     let recs = begun.recs;
     let start = begun.start;
     match start {
-        Start::Made(lock) => told_by(true, not_refused(), 0, 0, lock, recs),
-        Start::Refused(why) => told_by(false, why, 0, 0, given, recs),
+        Ok(lock) => told_by(true, not_refused(), 0, 0, lock, recs),
+        Err(why) => told_by(false, why, 0, 0, given, recs),
     }
 }
 
@@ -448,8 +447,8 @@ fn lock_before(line: &[u64], p: Parts) -> Before {
         return ruled_out(word(line, p.answer));
     }
     match pred_of(numbers) {
-        Named::Known(pred) => Before::Is(lock_of(numbers, pred, cell_of(numbers, call))),
-        Named::Unknown => Before::Broken,
+        Some(pred) => Before::Is(lock_of(numbers, pred, cell_of(numbers, call))),
+        None => Before::Broken,
     }
 }
 
@@ -508,23 +507,23 @@ fn pred_of(numbers: &[u64]) -> Named {
     pred::of_kind(word(numbers, 4), word(numbers, 5), word(numbers, 6))
 }
 
-fn cell_of(numbers: &[u64], call: u64) -> Content {
+fn cell_of(numbers: &[u64], call: u64) -> Option<u64> {
     if call == SETUP || word(numbers, 2) == 1 {
-        Content::Full(word(numbers, 3))
+        Some(word(numbers, 3))
     } else {
-        Content::Empty
+        None
     }
 }
 
-fn mover_of(numbers: &[u64]) -> Mover {
+fn mover_of(numbers: &[u64]) -> Option<u64> {
     if word(numbers, 10) == 1 {
-        Mover::By(word(numbers, 11))
+        Some(word(numbers, 11))
     } else {
-        Mover::Nobody
+        None
     }
 }
 
-fn lock_of(numbers: &[u64], pred: Pred, cell: Content) -> Lock {
+fn lock_of(numbers: &[u64], pred: Pred, cell: Option<u64>) -> Lock {
     Lock {
         exc: word(numbers, 0) == 1,
         rc: Count(word(numbers, 1)),
@@ -636,10 +635,10 @@ fn named_by(pred: Pred, a: u64, b: u64) -> [u64; 3] {
     }
 }
 
-fn moved_by(mover: Mover) -> u64 {
+fn moved_by(mover: Option<u64>) -> u64 {
     match mover {
-        Mover::Nobody => 0,
-        Mover::By(i) => i,
+        None => 0,
+        Some(i) => i,
     }
 }
 

@@ -24,8 +24,7 @@ use Rattle.machine.specs.When.{OfLists, AtRun, AtDrain}
 use Rattle.machine.specs.declared.Lock.{Lock}
 use Rattle.machine.specs.declared.Rec.{Rec}
 use Rattle.machine.specs.declared.Refusal.{Refusal}
-use Rattle.machine.specs.declared.Start.{Start}
-use Rattle.machine.specs.declared.Start.TheVariants.{Made, Refused}
+use Rattle.std.specs.Prelude.{Err, Ok, Result}
 use Rattle.machine.proofs.Refusals.{Applies, Means, ◌and◌, either, not_so, applies_left, means_append, means_map, exact}
 use Rattle.machine.proofs.Exact.{setup_exact, run_exact, drain_exact}
 use Rattle.machine.proofs.ExactLists.{lists_mean, lists_find}
@@ -57,14 +56,14 @@ module _ (q : Pred) (m v : ℕ) (s : Lent) (records : ℕ) where
   k = setup_refusal q m v s records
 
   -- what setup answers, by its refusal
-  abbrev answer : Bool → Start
-  answer b = cond b (Made (unused q m v)) (Refused (beside s k))
+  abbrev answer : Bool → Result Lock Refusal
+  answer b = cond b (Ok (unused q m v)) (Err (beside s k))
 
   number_is : (b : Bool) → eqb k 0 ≡ b → number_of (answer b) ≡ k
   number_is true e = sym (eqb-true k 0 e)
   number_is false e = number_beside s k
 
-  next_to : (b : Bool) (why : Refusal) → answer b ≡ Refused why → why ≡ beside s why.number
+  next_to : (b : Bool) (why : Refusal) → answer b ≡ Err why → why ≡ beside s why.number
   next_to true why e = let clash : ◌≡◌ {A = ℕ} 0 1 = cc in absurd (omega arith)
   next_to false why e = let same : why ≡ beside s k = cc in own_number s k why same
 

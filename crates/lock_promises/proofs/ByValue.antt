@@ -15,7 +15,7 @@ use Rattle.machine.specs.Drain.{Order, drain_lent}
 use Rattle.machine.specs.declared.Lock.{Lock}
 use Rattle.machine.specs.declared.Rec.{Rec}
 use Rattle.machine.specs.declared.Row.{Row}
-use Rattle.machine.specs.declared.Start.TheVariants.{Made}
+use Rattle.std.specs.Prelude.{Ok}
 use Rattle.lock.specs.ByValue.{put_back, setup_of, run_of, drain_of}
 use Rattle.lock.specs.Run.{ran_of, rest_of, rest_trace}
 use Rattle.lock.specs.Setup.{begun_of}
@@ -42,11 +42,11 @@ pub record FirstRecords (s : Lent) (q : Pred) (m v count : ℕ) (L : Lock) (recs
   pub reached : Reached s q m v L (take count recs) rows
 
 module _ (s : Lent) (q : Pred) (m v count : ℕ) where
-  at_setup : (recs : List Rec) (b : Begun) (L : Lock) → length recs ≡ most_threads → b ≡ begun_of q m v s count recs → b.start ≡ Made L
+  at_setup : (recs : List Rec) (b : Begun) (L : Lock) → length recs ≡ most_threads → b ≡ begun_of q m v s count recs → b.start ≡ Ok L
       → FirstRecords s q m v count L b.recs []
   unfolding setup_of
   at_setup recs b L wide is made =
-      let start : setup q m v s count ≡ Made L = rw is at made in
+      let start : setup q m v s count ≡ Ok L = rw is at made in
       let none : setup_refusal q m v s count ≡ 0 = (made_none s q m v count L start).0 in
       let few : count ≤ most_threads = count_most q m v s count none in
       let enough : count ≤ length recs = omega arith in

@@ -15,7 +15,7 @@ use Rattle.machine.specs.Lists.{Lent, scripts_of, beside}
 use Rattle.machine.specs.Setup.{fresh, setup, setup_refusal}
 use Rattle.machine.specs.Run.{Ran as Machine}
 use Rattle.machine.specs.declared.Refusal.{Refusal}
-use Rattle.machine.specs.declared.Start.TheVariants.{Made, Refused}
+use Rattle.std.specs.Prelude.{Err, Ok}
 use Rattle.machine.proofs.Exclusive.{sound_is_safe}
 use Rattle.machine.proofs.Runs.{always_sound}
 use Rattle.machine.proofs.RunRule.{run_rule}
@@ -42,7 +42,7 @@ refused_setup s q m v count recs b why is refused = rw is (go (eqb k 0) refl (rw
     k : ℕ
     k = setup_refusal q m v s count
 
-    go : (b : Bool) → eqb k 0 ≡ b → cond b (Made (unused q m v)) (Refused (beside s k)) ≡ Refused why
+    go : (b : Bool) → eqb k 0 ≡ b → cond b (Ok (unused q m v)) (Err (beside s k)) ≡ Err why
         → (cond b (put_back count recs (fresh count)) recs ≡ recs) × (why.number ≢ 0)
     go true e clash = let no : ◌≡◌ {A = ℕ} 0 1 = cc in absurd (omega arith)
     go false e same =

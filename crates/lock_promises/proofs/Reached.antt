@@ -22,7 +22,7 @@ use Rattle.machine.specs.When.{AtSetup, AtRun, AtDrain}
 use Rattle.machine.specs.declared.Lock.{Lock}
 use Rattle.machine.specs.declared.Rec.{Rec}
 use Rattle.machine.specs.declared.Row.{Row}
-use Rattle.machine.specs.declared.Start.TheVariants.{Made, Refused}
+use Rattle.std.specs.Prelude.{Err, Ok}
 use Rattle.machine.proofs.Exact.{setup_exact, run_exact, drain_exact}
 use Rattle.machine.proofs.RunLaws.{cutting}
 use Rattle.machine.proofs.RunRule.{run_length, made as run_made}
@@ -46,14 +46,14 @@ pub record Comes (s : Lent) (q : Pred) (m v : ℕ) (w : Ran) : Type 0 where
 -- ---- a setup that refuses nothing
 module _ (s : Lent) (q : Pred) (m v : ℕ) where
   -- a setup that makes a lock refuses nothing, and the lock is the unused one
-  pub made_none : (n : ℕ) (L : Lock) → setup q m v s n ≡ Made L → (setup_refusal q m v s n ≡ 0) × (unused q m v ≡ L)
+  pub made_none : (n : ℕ) (L : Lock) → setup q m v s n ≡ Ok L → (setup_refusal q m v s n ≡ 0) × (unused q m v ≡ L)
   unfolding setup
   made_none n L made = go (eqb k 0) refl made
     where
       k : ℕ
       k = setup_refusal q m v s n
 
-      go : (b : Bool) → eqb k 0 ≡ b → cond b (Made (unused q m v)) (Refused (beside s k)) ≡ Made L → (k ≡ 0) × (unused q m v ≡ L)
+      go : (b : Bool) → eqb k 0 ≡ b → cond b (Ok (unused q m v)) (Err (beside s k)) ≡ Ok L → (k ≡ 0) × (unused q m v ≡ L)
       go true e is = (eqb-true k 0 e, cc)
       go false e is = let clash : ◌≡◌ {A = ℕ} 0 1 = cc in absurd (omega arith)
 
@@ -124,7 +124,7 @@ module _ (s : Lent) (q : Pred) (m v : ℕ) where
       one_more left e =
           rw (e, made, rows_told (scripts_of s) w.lock w.recs schedule budget trace) (joined es)
 
-  at_setup : (l : List Rec) (L : Lock) → setup q m v s (length l) ≡ Made L → Comes s q m v (ran_as L (setup_recs q m v s l) [])
+  at_setup : (l : List Rec) (L : Lock) → setup q m v s (length l) ≡ Ok L → Comes s q m v (ran_as L (setup_recs q m v s l) [])
   unfolding run
   at_setup l L made =
       let (none, same) = made_none (length l) L made in

@@ -16,8 +16,7 @@ use Rattle.machine.specs.When.{OfLists, AtSetup, AtRun, AtDrain}
 use Rattle.machine.specs.declared.Lock.{Lock}
 use Rattle.machine.specs.declared.Rec.{Rec}
 use Rattle.machine.specs.declared.Refusal.{Refusal}
-use Rattle.machine.specs.declared.Start.{Start}
-use Rattle.machine.specs.declared.Start.TheVariants.{Made, Refused}
+use Rattle.std.specs.Prelude.{Err, Ok, Result}
 use Rattle.lock.specs.declared.run.RunReturn.{RunReturn}
 use Rattle.lock.specs.declared.setup.Begun.{Begun}
 use Rattle.lock.specs.declared.drain.DrainReturn.{DrainReturn}
@@ -29,19 +28,19 @@ ExactRefusal When s why = Exact When why.number × (why ≡ beside s why.number)
 
 -- ---- setup
 -- the number of what setup answers, 0 where it makes a lock
-abbrev pub number_of : Start → ℕ
-number_of (Made L) = 0
-number_of (Refused why) = why.number
+abbrev pub number_of : Result Lock Refusal → ℕ
+number_of (Ok L) = 0
+number_of (Err why) = why.number
 
 -- so many records are lent; where no condition holds, a lock is made
-pub record SetupSays (q : Pred) (m v : ℕ) (s : Lent) (records : ℕ) (start : Start) : Type 0 where
+pub record SetupSays (q : Pred) (m v : ℕ) (s : Lent) (records : ℕ) (start : Result Lock Refusal) : Type 0 where
   pub exact : Exact (AtSetup q m v s records) (number_of start)
-  pub next_to : (why : Refusal) → start ≡ Refused why → why ≡ beside s why.number
-  pub made : Nothing (AtSetup q m v s records) → start ≡ Made (unused q m v)
+  pub next_to : (why : Refusal) → start ≡ Err why → why ≡ beside s why.number
+  pub made : Nothing (AtSetup q m v s records) → start ≡ Ok (unused q m v)
 
 abbrev pub SetupAnswer : Type 0
 SetupAnswer =
-    (s : Lent) (q : Pred) (m v : ℕ) (l : List Rec) (start : Start) → start ≡ setup q m v s (length l) → SetupSays q m v s (length l) start
+    (s : Lent) (q : Pred) (m v : ℕ) (l : List Rec) (start : Result Lock Refusal) → start ≡ setup q m v s (length l) → SetupSays q m v s (length l) start
 
 abbrev pub SetupAnswerByValue : Type 0
 SetupAnswerByValue =
@@ -53,15 +52,15 @@ BeginsWith q m v L n l = Unused q m v L × (length l ≡ n) × ((i : ℕ) (none 
 
 abbrev pub SetupState : Type 0
 SetupState =
-    (s : Lent) (q : Pred) (m v : ℕ) (l : List Rec) (start : Start) (l' : List Rec) (L : Lock)
-    → start ≡ setup q m v s (length l) → l' ≡ setup_recs q m v s l → start ≡ Made L
+    (s : Lent) (q : Pred) (m v : ℕ) (l : List Rec) (start : Result Lock Refusal) (l' : List Rec) (L : Lock)
+    → start ≡ setup q m v s (length l) → l' ≡ setup_recs q m v s l → start ≡ Ok L
     → BeginsWith q m v L (length l) l'
 
 -- of the first `count` records; the other records of the array stay
 abbrev pub SetupStateByValue : Type 0
 SetupStateByValue =
     (s : Lent) (q : Pred) (m v count : ℕ) (recs : List Rec) (b : Begun) (L : Lock) → length recs ≡ most_threads → ReturnedBySetup s q m v count recs b
-    → b.start ≡ Made L
+    → b.start ≡ Ok L
     → Unused q m v L
     × (length b.recs ≡ most_threads)
     × ((i : ℕ) (none : Rec) → i < count → Fresh (get_or b.recs i none))

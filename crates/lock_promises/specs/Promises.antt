@@ -19,7 +19,7 @@ use Rattle.machine.specs.declared.Rec.{Rec}
 use Rattle.machine.specs.declared.Row.{Row}
 use Rattle.machine.specs.declared.Refusal.{Refusal}
 use Rattle.machine.specs.declared.Place.TheVariants.{Idle}
-use Rattle.machine.specs.declared.Start.TheVariants.{Refused}
+use Rattle.std.specs.Prelude.{Err}
 use Rattle.lock.specs.declared.run.RunReturn.{RunReturn}
 use Rattle.lock.specs.declared.setup.Begun.{Begun}
 use Rattle.lock.specs.declared.drain.DrainReturn.{DrainReturn}
@@ -29,7 +29,7 @@ use Rattle.lock_promises.specs.Reached.{Reached, ReachedByValue}
 -- ---- demand 1: a refused call changes nothing that is lent
 abbrev pub RefusedSetup : Type 0
 RefusedSetup =
-    (s : Lent) (q : Pred) (m v count : ℕ) (recs : List Rec) (b : Begun) (why : Refusal) → ReturnedBySetup s q m v count recs b → b.start ≡ Refused why
+    (s : Lent) (q : Pred) (m v count : ℕ) (recs : List Rec) (b : Begun) (why : Refusal) → ReturnedBySetup s q m v count recs b → b.start ≡ Err why
     → (b.recs ≡ recs) × (why.number ≢ 0)
 
 abbrev pub RefusedRun : Type 0

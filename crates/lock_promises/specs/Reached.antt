@@ -11,7 +11,7 @@ use Rattle.machine.specs.Drain.{Order, DrainLeft, drain_lent}
 use Rattle.machine.specs.declared.Lock.{Lock}
 use Rattle.machine.specs.declared.Rec.{Rec}
 use Rattle.machine.specs.declared.Row.{Row}
-use Rattle.machine.specs.declared.Start.TheVariants.{Made}
+use Rattle.std.specs.Prelude.{Ok}
 use Rattle.lock.specs.declared.run.RunReturn.{RunReturn}
 use Rattle.lock.specs.declared.setup.Begun.{Begun}
 use Rattle.lock.specs.declared.drain.DrainReturn.{DrainReturn}
@@ -36,7 +36,7 @@ rows_in (suc n) trace = row_in trace ∷ rows_in n (drop row_words trace)
 
 -- over a list of records: what the calls leave is what machine's setup and run leave
 pub data Reached (s : Lent) (q : Pred) (m v : ℕ) : Lock → List Rec → List Row → Type 0 where
-  begun : (l : List Rec) (L : Lock) → setup q m v s (length l) ≡ Made L → Reached s q m v L (setup_recs q m v s l) []
+  begun : (l : List Rec) (L : Lock) → setup q m v s (length l) ≡ Ok L → Reached s q m v L (setup_recs q m v s l) []
   ran : {L : Lock} {l : List Rec} {rows : List Row} → Reached s q m v L l rows → (schedule : List ℕ) (budget : ℕ) (trace : List ℕ) (left : RunLeft)
       → left ≡ run_lent s L l schedule budget trace
       → Reached s q m v left.lock left.recs (rows ++ rows_in left.n left.trace)
@@ -48,7 +48,7 @@ pub data Reached (s : Lent) (q : Pred) (m v : ℕ) : Lock → List Rec → List 
 -- with records by value, `count` of them in an array of sixteen: b, r and d are what the contracts of lock's setup, run, run_rest and
 -- drain allow, and trace' is what they allow as the trace list afterwards
 pub data ReachedByValue (s : Lent) (q : Pred) (m v count : ℕ) : Lock → List Rec → List Row → Type 0 where
-  begun : (recs : List Rec) (b : Begun) (L : Lock) → length recs ≡ most_threads → ReturnedBySetup s q m v count recs b → b.start ≡ Made L
+  begun : (recs : List Rec) (b : Begun) (L : Lock) → length recs ≡ most_threads → ReturnedBySetup s q m v count recs b → b.start ≡ Ok L
       → ReachedByValue s q m v count L b.recs []
   ran : {L : Lock} {recs : List Rec} {rows : List Row} → ReachedByValue s q m v count L recs rows
       → (schedule : List ℕ) (budget : ℕ) (trace : List ℕ) (r : RunReturn) (trace' : List ℕ)

@@ -13,8 +13,7 @@ use Rattle.machine.specs.Words.{unbegun}
 use Rattle.machine.specs.Step.{Scripts, busy_of, busy, others, here}
 use Rattle.machine.specs.Sound.{test_mover}
 use Rattle.machine.specs.declared.Rec.{Rec}
-use Rattle.machine.specs.declared.Mover.{Mover}
-use Rattle.machine.specs.declared.Mover.TheVariants.{Nobody, By}
+use Rattle.std.specs.Prelude.{None, Option, Some}
 use Rattle.machine.proofs.Sums.{sum_set}
 use Rattle.lock_sound.specs.Counts.{unvalued}
 use Rattle.lock_sound.specs.Records.{alone, mover_at}
@@ -27,13 +26,13 @@ others_none l t h =
     same_test (others l t) 0 (busy l) (busy_of (here l t)) (λ e. omega arith) (λ e. omega arith)
 
 module _ (S : Scripts) (count n : ℕ) (recs : List Rec) (t busy : ℕ) (s : length (take count recs) ≡ n) where
-  pub mover_there : t < n → mover_at S (take count recs) busy (By t) ≡ alone (S.len t) (S.op t (here recs t).at) (here recs t) busy
+  pub mover_there : t < n → mover_at S (take count recs) busy (Some t) ≡ alone (S.len t) (S.op t (here recs t).at) (here recs t) busy
   mover_there lt =
       let there : t < length (take count recs) = omega arith in
       let asked : t < count = omega (arith, length-take count recs) in
       rw (lt-ltb t (length (take count recs)) there, get_or-take count recs t unbegun asked)
 
-  pub mover_missing : n ≤ t → false ≡ mover_at S (take count recs) busy (By t)
+  pub mover_missing : n ≤ t → false ≡ mover_at S (take count recs) busy (Some t)
   mover_missing over =
       let past : length (take count recs) ≤ t = omega arith in
       rw (le-ltb t (length (take count recs)) past)
@@ -47,6 +46,6 @@ there_or_not l t {a} {b} f = go (ltb t (length l)) refl
     go false e = refl
 
 -- with the count over the records it is the definition's test; no clause looks at a value
-pub mover_same : (lens ops vals : List ℕ) (l : List Rec) (m : Mover) → mover_at (unvalued lens ops) l (busy l) m ≡ test_mover (scripts_of (lists lens ops vals)) l m
-mover_same lens ops vals l Nobody = refl
-mover_same lens ops vals l (By t) = there_or_not l t (λ h. rw (others_none l t h))
+pub mover_same : (lens ops vals : List ℕ) (l : List Rec) (m : Option ℕ) → mover_at (unvalued lens ops) l (busy l) m ≡ test_mover (scripts_of (lists lens ops vals)) l m
+mover_same lens ops vals l None = refl
+mover_same lens ops vals l (Some t) = there_or_not l t (λ h. rw (others_none l t h))

@@ -6,8 +6,7 @@ use Rattle.machine.specs.Names.{into_inner}
 use Rattle.machine.specs.Step.{Scripts, busy_of, here}
 use Rattle.machine.specs.Sound.{in_range, has_its, keeps_seen, keeps_taken, test_rec}
 use Rattle.machine.specs.declared.Rec.{Rec}
-use Rattle.machine.specs.declared.Mover.{Mover}
-use Rattle.machine.specs.declared.Mover.TheVariants.{Nobody, By}
+use Rattle.std.specs.Prelude.{None, Option, Some}
 use Rattle.lock_sound.specs.Counts.{unvalued}
 
 abbrev pub keeps_at : Pred → ℕ → ℕ → ℕ → Rec → Bool
@@ -22,6 +21,6 @@ abbrev pub alone : ℕ → ℕ → Rec → ℕ → Bool
 alone n o r busy = ltb r.at n && (eqb o into_inner && eqb busy (busy_of r))
 
 -- `test_mover` is this where busy is the count over the records
-abbrev pub mover_at : Scripts → List Rec → ℕ → Mover → Bool
-mover_at S l busy Nobody = true
-mover_at S l busy (By t) = ltb t (length l) && alone (S.len t) (S.op t (here l t).at) (here l t) busy
+abbrev pub mover_at : Scripts → List Rec → ℕ → Option ℕ → Bool
+mover_at S l busy None = true
+mover_at S l busy (Some t) = ltb t (length l) && alone (S.len t) (S.op t (here l t).at) (here l t) busy

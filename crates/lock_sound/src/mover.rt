@@ -5,7 +5,7 @@ ghost use Rattle.lock_sound.specs.Records.{alone, mover_at};
 
 use super::script;
 use lock_words::names::{INTO_INNER, MOST_THREADS};
-use machine::{Mover, Place, Rec};
+use machine::{Place, Rec};
 
 // The record r, whose operation is o, is at operation 7, and of so many records that are not Idle it is the only one.
 fn is_alone(len: u64, o: u64, r: Rec, busy: u64) -> bool
@@ -17,12 +17,12 @@ fn is_alone(len: u64, o: u64, r: Rec, busy: u64) -> bool
 }
 
 // A mover is a thread that there is, and the clauses on its record hold. `busy` is how many of the records are not Idle.
-pub fn holds(lens: &[u64], ops: &[u64], by: Mover, recs: [Rec; 16], count: u64, busy: u64) -> bool
+pub fn holds(lens: &[u64], ops: &[u64], by: Option<u64>, recs: [Rec; 16], count: u64, busy: u64) -> bool
     ensures { result ≡ mover_at (unvalued lens.now ops.now) (take count recs) busy by }
 {
     match by {
-        Mover::Nobody => true,
-        Mover::By(t) => {
+        None => true,
+        Some(t) => {
             if lock_words::smaller(count, MOST_THREADS) <= t {
                 return false;
             }

@@ -8,8 +8,7 @@ ghost use Rattle.machine.specs.Words.{bit, place_no, is, moving, may_go, begun, 
 
 use atomic::Count;
 use cell::pred::Pred;
-use cell::value::Content;
-use machine::{Lock, Mover, Place, Rec};
+use machine::{Lock, Place, Rec};
 
 pub mod names;
 
@@ -44,23 +43,23 @@ pub fn is(place: Place, other: Place) -> bool
 }
 
 // 1 if there is a mover.
-pub fn moving(m: Mover) -> u64
+pub fn moving(m: Option<u64>) -> u64
     ensures { result ≡ moving m }
 {
     match m {
-        Mover::Nobody => 0,
-        Mover::By(_) => 1,
+        None => 0,
+        Some(_) => 1,
     }
 }
 
 // 1 for a full cell.
-pub fn full(c: Content) -> u64
+pub fn full(c: Option<u64>) -> u64
     ensures value { result ≡ bit (is_full c) }
     ensures upper_bound { result ≤ 1 }
 {
     match c {
-        Content::Empty => 0,
-        Content::Full(_) => 1,
+        None => 0,
+        Some(_) => 1,
     }
 }
 
@@ -77,21 +76,21 @@ pub fn smaller(a: u64, b: u64) -> u64
     if a <= b { a } else { b }
 }
 
-pub fn may_go(mover: Mover, i: u64) -> bool
+pub fn may_go(mover: Option<u64>, i: u64) -> bool
     ensures { result ≡ may_go mover i }
 {
     match mover {
-        Mover::Nobody => true,
-        Mover::By(t) => t == i,
+        None => true,
+        Some(t) => t == i,
     }
 }
 
-pub fn begun(mover: Mover, i: u64) -> bool
+pub fn begun(mover: Option<u64>, i: u64) -> bool
     ensures { result ≡ begun mover i }
 {
     match mover {
-        Mover::Nobody => false,
-        Mover::By(t) => t == i,
+        None => false,
+        Some(t) => t == i,
     }
 }
 
@@ -146,14 +145,14 @@ pub fn with_writes(mut lock: Lock, n: Count) -> Lock
     lock
 }
 
-pub fn with_cell(lock: Lock, cell: Content) -> Lock
+pub fn with_cell(lock: Lock, cell: Option<u64>) -> Lock
     ensures { result ≡ with_cell lock cell }
 {
     let mover = lock.mover;
     anew(lock, cell, mover, lock.finished)
 }
 
-pub fn with_mover(lock: Lock, mover: Mover) -> Lock
+pub fn with_mover(lock: Lock, mover: Option<u64>) -> Lock
     ensures { result ≡ with_mover lock mover }
 {
     let cell = lock.cell;
@@ -161,14 +160,14 @@ pub fn with_mover(lock: Lock, mover: Mover) -> Lock
 }
 
 // The end, with what the last take left in the cell.
-pub fn with_end(lock: Lock, cell: Content) -> Lock
+pub fn with_end(lock: Lock, cell: Option<u64>) -> Lock
     ensures { result ≡ with_cell (with_end lock) cell }
 {
-    anew(lock, cell, Mover::Nobody, true)
+    anew(lock, cell, None, true)
 }
 
 // A field that is an enum is changed by making the lock anew.
-fn anew(lock: Lock, cell: Content, mover: Mover, finished: bool) -> Lock
+fn anew(lock: Lock, cell: Option<u64>, mover: Option<u64>, finished: bool) -> Lock
     ensures { result ≡ record {
       exc = lock.exc;
       rc = lock.rc;
@@ -206,12 +205,12 @@ pub fn unused(pred: Pred, top: Count, first: u64) -> Lock
     Lock {
         exc: false,
         rc: Count(0),
-        cell: Content::Full(first),
+        cell: Some(first),
         pred,
         top,
         reads: Count(0),
         writes: Count(0),
-        mover: Mover::Nobody,
+        mover: None,
         finished: false,
     }
 }
@@ -254,21 +253,21 @@ pub fn rec_remade(rec: Rec) -> Rec
     }
 }
 
-fn same_content(cell: Content) -> Content
+fn same_content(cell: Option<u64>) -> Option<u64>
     ensures { result ≡ cell }
 {
     match cell {
-        Content::Empty => Content::Empty,
-        Content::Full(v) => Content::Full(v),
+        None => None,
+        Some(v) => Some(v),
     }
 }
 
-fn same_mover(mover: Mover) -> Mover
+fn same_mover(mover: Option<u64>) -> Option<u64>
     ensures { result ≡ mover }
 {
     match mover {
-        Mover::Nobody => Mover::Nobody,
-        Mover::By(i) => Mover::By(i),
+        None => None,
+        Some(i) => Some(i),
     }
 }
 

@@ -15,8 +15,7 @@ use Rattle.cell.specs.Access.{answer_of, value_of}
 use Rattle.cell.specs.Value.{kept, is_full}
 use Rattle.cell.specs.Value as cell
 use Rattle.cell.specs.Pred.{permits}
-use Rattle.cell.specs.declared.value.Content.{Content}
-use Rattle.cell.specs.declared.value.Content.TheVariants.{Empty, Full}
+use Rattle.std.specs.Prelude.{None, Option, Some}
 use Rattle.cell.specs.declared.Answer.TheVariants.{Value, Stored}
 use Rattle.machine.specs.Names.{loads_rc, exchanges_rc, loads_exc, gives_back, borrows_cell, releases_rc, exchanges_exc, waits_rc, takes_cell, puts_cell, stores_exc, drops_handle, fails_rc, fails_exc}
 use Rattle.machine.specs.Words.{bit, unbegun}
@@ -54,13 +53,13 @@ AsTable access i L r o v M s got =
     (Unit {0}))))))))))))))
 
 -- ---- what the cell answers, by what is in it
-of_full : (c : Content) → bit (is_full c) ≡ 1 → (cell.borrow c ≡ keeps c (Value (kept c))) × (cell.take c ≡ record { leaves = Empty; answers = Value (kept c) })
-of_full Empty e = absurd (omega arith)
-of_full (Full x) e = (refl, refl)
+of_full : (c : Option ℕ) → bit (is_full c) ≡ 1 → (cell.borrow c ≡ keeps c (Value (kept c))) × (cell.take c ≡ record { leaves = None; answers = Value (kept c) })
+of_full None e = absurd (omega arith)
+of_full (Some x) e = (refl, refl)
 
-of_empty : (v : ℕ) (c : Content) → bit (is_full c) ≡ 0 → cell.put v c ≡ record { leaves = Full v; answers = Stored }
-of_empty v Empty e = refl
-of_empty v (Full x) e = absurd (omega arith)
+of_empty : (v : ℕ) (c : Option ℕ) → bit (is_full c) ≡ 0 → cell.put v c ≡ record { leaves = Some v; answers = Stored }
+of_empty v None e = refl
+of_empty v (Some x) e = absurd (omega arith)
 
 -- nothing else of the lock has changed
 rest : (L : Lock) → Rest L L
@@ -214,14 +213,14 @@ one_of_fourteen S L l i e =
 
 -- ---- what a borrow and a take got is permitted
 -- a cell that gave x to a borrow keeps x
-gave : (c : Content) (x : ℕ) → (cell.borrow c).answers ≡ Value x → (bit (is_full c) ≡ 1) × (kept c ≡ x)
-gave Empty x e = absurd (omega (arith, ap answer_of e))
-gave (Full v) x e = (refl, ap value_of e)
+gave : (c : Option ℕ) (x : ℕ) → (cell.borrow c).answers ≡ Value x → (bit (is_full c) ≡ 1) × (kept c ≡ x)
+gave None x e = absurd (omega (arith, ap answer_of e))
+gave (Some v) x e = (refl, ap value_of e)
 
 -- a take answers as a borrow does
-answers_alike : (c : Content) → (cell.borrow c).answers ≡ (cell.take c).answers
-answers_alike Empty = refl
-answers_alike (Full v) = refl
+answers_alike : (c : Option ℕ) → (cell.borrow c).answers ≡ (cell.take c).answers
+answers_alike None = refl
+answers_alike (Some v) = refl
 
 module _ (S : Scripts) (L : Lock) (l : List Rec) (h : Sound S L l) where
   permitted : (x : ℕ) → (cell.borrow L.cell).answers ≡ Value x → permits L.pred x ≡ true

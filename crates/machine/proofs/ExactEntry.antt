@@ -16,8 +16,7 @@ use Rattle.machine.specs.Step.{Scripts, sum, busy_of, others, here, op_of, val_o
 use Rattle.machine.specs.When.{AtEntry, for_no_thread, for_script_finished, lock_finished, moved_by_another, for_does_not_fit, for_others_busy, for_not_permitted, EntryExact}
 use Rattle.machine.specs.declared.Lock.{Lock}
 use Rattle.machine.specs.declared.Rec.{Rec}
-use Rattle.machine.specs.declared.Mover.{Mover}
-use Rattle.machine.specs.declared.Mover.TheVariants.{Nobody, By}
+use Rattle.std.specs.Prelude.{None, Option, Some}
 use Rattle.machine.specs.declared.Place.{Place}
 use Rattle.machine.specs.declared.Place.TheVariants.{Idle, ReadTry, ReadCheck, ReadBack, Reading, WriteWait, WriteTake, Writing, WritePut}
 use Rattle.machine.proofs.Refusals.{Applies, Means, ◌and◌, either, not_so, exact}
@@ -89,18 +88,18 @@ module _ (l : List Rec) (i : ℕ) where
   busy_counted j ne h busy = omega (arith, sum_other (λ k r. busy_of r) l i j unbegun ne h, weighs (here l j) busy)
 
 -- ---- the mover
-begun_by : (m : Mover) (i : ℕ) → begun m i ≡ false → m ≢ By i
-begun_by m i e q = true≢false (sym (eq-eqb i i refl) ∙ ap (λ (m : Mover). begun m i) (sym q) ∙ e)
+begun_by : (m : Option ℕ) (i : ℕ) → begun m i ≡ false → m ≢ Some i
+begun_by m i e q = true≢false (sym (eq-eqb i i refl) ∙ ap (λ (m : Option ℕ). begun m i) (sym q) ∙ e)
 
-not_begun : (m : Mover) (i : ℕ) → m ≢ By i → begun m i ≡ false
-not_begun Nobody i ne = refl
-not_begun (By t) i ne = ne_eqb t i (λ e. ne (ap By e))
+not_begun : (m : Option ℕ) (i : ℕ) → m ≢ Some i → begun m i ≡ false
+not_begun None i ne = refl
+not_begun (Some t) i ne = ne_eqb t i (λ e. ne (ap Some e))
 
 -- ---- each check has its condition, and each condition its check
 module _ (S : Scripts) (L : Lock) (l : List Rec) (i : ℕ) where
-  moved : (m : Mover) → L.mover ≡ m → not (may_go m i) ≡ true → AtEntry S L l i lock_gone
-  moved Nobody e t = absurd (false≢true t)
-  moved (By x) e t = moved_by_another x e (eqb-false x i (not-true _ t))
+  moved : (m : Option ℕ) → L.mover ≡ m → not (may_go m i) ≡ true → AtEntry S L l i lock_gone
+  moved None e t = absurd (false≢true t)
+  moved (Some x) e t = moved_by_another x e (eqb-false x i (not-true _ t))
 
   busy_means : (eqb (op_of S l i) into_inner && (not (begun L.mover i) && ltb 0 (others l i))) ≡ true → AtEntry S L l i others_busy
   busy_means t =

@@ -17,8 +17,7 @@ use Rattle.machine.specs.Run.{run}
 use Rattle.machine.specs.Ends.{IntoInnerEnds}
 use Rattle.machine.specs.declared.Lock.{Lock}
 use Rattle.machine.specs.declared.Rec.{Rec}
-use Rattle.machine.specs.declared.Mover.{Mover}
-use Rattle.machine.specs.declared.Out.TheVariants.{Yes}
+use Rattle.std.specs.Prelude.{Ok, Option}
 use Rattle.machine.specs.declared.Place.{Place}
 use Rattle.machine.specs.declared.Place.TheVariants.{Idle, WriteWait, WriteTake}
 use Rattle.machine.proofs.Sums.{sum_set, sum_part, sum_other}
@@ -61,26 +60,26 @@ module _ (S : Scripts) (L : Lock) (l : List Rec) (i : ℕ) (h : Ready S L l i) w
   nothing fit k (for_no_thread q) = omega (arith, h.thread)
   nothing fit k (for_script_finished q) = omega (arith, h.more)
   nothing fit k (lock_finished e) = true≢false (sym e ∙ h.going)
-  nothing fit k (moved_by_another t e ne) = ne (eqb-true t i (ap (λ (m : Mover). may_go m i) (sym e) ∙ h.mine))
+  nothing fit k (moved_by_another t e ne) = ne (eqb-true t i (ap (λ (m : Option ℕ). may_go m i) (sym e) ∙ h.mine))
   nothing fit k (for_does_not_fit never) = never ((fits_table _ _).0 (ap (λ (o : ℕ). fits (here l i).place o) h.into ∙ fit))
   nothing fit k (for_others_busy o m j ne q busy) = busy (idle_of (here l j) (omega (arith, sum_other (λ k r. busy_of r) l i j unbegun ne q, h.calm)))
   nothing fit k (for_not_permitted p o e) = omega (arith, h.into)
 
   -- its entry is what the table does
   accepts : fits (here l i).place into_inner ≡ true
-      → step S L l i ≡ settle L l i (Yes (act i L (here l i) (here l i).place into_inner (S.val i (here l i).at)))
+      → step S L l i ≡ settle L l i (Ok (act i L (here l i) (here l i).place into_inner (S.val i (here l i).at)))
   unfolding step answer
   accepts fit = rw ((entry_exact S L l i).1.1 (nothing fit), h.into) refl
 
-  first : (here l i).place ≡ Idle → L.exc ≡ false → step S L l i ≡ settle L l i (Yes (exc_done (claimed L i) (here l i)))
+  first : (here l i).place ≡ Idle → L.exc ≡ false → step S L l i ≡ settle L l i (Ok (exc_done (claimed L i) (here l i)))
   unfolding act fits
   first p down = accepts (rw p refl) ∙ rw (p, down) refl
 
-  second : (here l i).place ≡ WriteWait → L.rc.0 ≡ 0 → step S L l i ≡ settle L l i (Yes (wait_done L (here l i)))
+  second : (here l i).place ≡ WriteWait → L.rc.0 ≡ 0 → step S L l i ≡ settle L l i (Ok (wait_done L (here l i)))
   unfolding act fits
   second p none = accepts (rw p refl) ∙ rw (p, none) refl
 
-  third : (here l i).place ≡ WriteTake → step S L l i ≡ settle L l i (Yes (taken_last L (here l i)))
+  third : (here l i).place ≡ WriteTake → step S L l i ≡ settle L l i (Ok (taken_last L (here l i)))
   unfolding act fits
   third p = accepts (rw p refl) ∙ rw p refl
 
@@ -107,12 +106,12 @@ module _ (S : Scripts) (L : Lock) (l : List Rec) (i : ℕ) (h : Ready S L l i) w
         calm = rw (set-set l i (goes (here l i) p) unbegun) h.calm;
       }
 
-  waits : L.rc.0 ≡ 0 → step S raised (inside WriteWait) i ≡ settle raised l i (Yes (wait_done raised (here l i)))
+  waits : L.rc.0 ≡ 0 → step S raised (inside WriteWait) i ≡ settle raised l i (Ok (wait_done raised (here l i)))
   waits none =
       second S raised (inside WriteWait) i (within WriteWait) (ap (λ (r : Rec). r.place) (own WriteWait)) none
       ∙ rw (own WriteWait, set-set l i (goes (here l i) WriteWait) (goes (here l i) WriteTake)) refl
 
-  takes : step S raised (inside WriteTake) i ≡ settle raised l i (Yes (taken_last raised (here l i)))
+  takes : step S raised (inside WriteTake) i ≡ settle raised l i (Ok (taken_last raised (here l i)))
   takes =
       third S raised (inside WriteTake) i (within WriteTake) (ap (λ (r : Rec). r.place) (own WriteTake))
       ∙ rw (own WriteTake, set-set l i (goes (here l i) WriteTake) (next (here l i) Idle)) refl

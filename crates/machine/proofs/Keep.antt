@@ -15,8 +15,7 @@ use Rattle.machine.specs.Move.{Move, by_load_below, by_load_full, by_try_done, b
 use Rattle.machine.specs.declared.Did.{Did}
 use Rattle.machine.specs.declared.Lock.{Lock}
 use Rattle.machine.specs.declared.Rec.{Rec}
-use Rattle.machine.specs.declared.Mover.{Mover}
-use Rattle.machine.specs.declared.Mover.TheVariants.{Nobody, By}
+use Rattle.std.specs.Prelude.{None, Option, Some}
 use Rattle.machine.specs.declared.Place.{Place}
 use Rattle.machine.specs.declared.Place.TheVariants.{ReadCheck, ReadBack, Reading, WriteWait, WriteTake, Writing, WritePut}
 
@@ -24,9 +23,9 @@ pub bit_le : (b : Bool) → bit b ≤ 1
 bit_le true = omega arith
 bit_le false = omega arith
 
-pub moving_le : (m : Mover) → moving m ≤ 1
-moving_le Nobody = omega arith
-moving_le (By t) = omega arith
+pub moving_le : (m : Option ℕ) → moving m ≤ 1
+moving_le None = omega arith
+moving_le (Some t) = omega arith
 
 pub bit_true : (b : Bool) → b ≡ true → bit b ≡ 1
 bit_true b e = ap bit e
@@ -56,7 +55,7 @@ weighed ops r N =
     }
 
 -- the mover's clause, seen from the thread that steps: a mover is at into_inner, and the others are Idle
-pub record Own (m : Mover) (R : Tally) (n at o : ℕ) : Type 0 where
+pub record Own (m : Option ℕ) (R : Tally) (n at o : ℕ) : Type 0 where
   pub op : moving m ≤ is_into o
   pub room : at + moving m ≤ n
   pub rest : min (moving m) R.busy ≡ 0

@@ -13,7 +13,7 @@ use Rattle.machine.specs.Sound.{Sound}
 use Rattle.machine.specs.Run.{run}
 use Rattle.machine.specs.RunLaws.{Cutting, RunOne, EachRow, RefusedEntry, RowSays, Induction}
 use Rattle.machine.specs.declared.Did.{Did}
-use Rattle.machine.specs.declared.Out.TheVariants.{No, Yes}
+use Rattle.std.specs.Prelude.{Err, Ok}
 use Rattle.machine.specs.declared.Lock.{Lock}
 use Rattle.machine.specs.declared.Rec.{Rec}
 use Rattle.machine.specs.declared.Row.{Row}
@@ -42,7 +42,7 @@ refused_entry S L l i refused = rw (ne_eqb (entry_refusal S L l i) 0 refused) (r
 
 -- the row of an entry whose refusal is k: an accepted one, k being 0, does d
 row_of : (L : Lock) (l : List Rec) (i k : ℕ) (d : Did) (accepts : Bool) → eqb k 0 ≡ accepts
-    → let left = settle L l i (cond accepts (Yes d) (No k)) in
+    → let left = settle L l i (cond accepts (Ok d) (Err k)) in
     (left.row.answer ≡ k) × (left.row.thread ≡ i) × (left.row.exc ≡ bit left.lock.exc) × (left.row.rc ≡ left.lock.rc.0)
 row_of L l i k d true e = (sym (eqb-true k 0 e), refl, refl, refl)
 row_of L l i k d false e = (refl, refl, refl, refl)

@@ -14,8 +14,8 @@ use Rattle.machine.specs.Step.{Scripts, answer, settle, step}
 use Rattle.machine.specs.Sound.{sound}
 use Rattle.machine.specs.Run.{run, accepted, words_of, entries, run_checks, run_refusal, made_run, refused_run, run_lent}
 use Rattle.machine.specs.RunLaws.{zero_answers, RunRule, RefusedRun, Pieces}
-use Rattle.machine.specs.declared.Out.{Out}
-use Rattle.machine.specs.declared.Out.TheVariants.{No, Yes}
+use Rattle.std.specs.Prelude.{Err, Ok, Result}
+use Rattle.machine.specs.declared.Did.{Did}
 use Rattle.machine.specs.declared.Lock.{Lock}
 use Rattle.machine.specs.declared.Rec.{Rec}
 use Rattle.machine.specs.declared.Row.{Row}
@@ -74,9 +74,9 @@ pub step_length : (S : Scripts) (L : Lock) (l : List Rec) (i : ℕ) → length (
 unfolding step
 step_length S L l i = left_length (answer S L l i)
   where
-    left_length : (out : Out) → length (settle L l i out).recs ≡ length l
-    left_length (No k) = refl
-    left_length (Yes d) = length-set l i d.rec
+    left_length : (out : Result Did ℕ) → length (settle L l i out).recs ≡ length l
+    left_length (Err k) = refl
+    left_length (Ok d) = length-set l i d.rec
 
 pub run_length : (S : Scripts) (L : Lock) (l : List Rec) (schedule : List ℕ) → length (run S L l schedule).recs ≡ length l
 unfolding run

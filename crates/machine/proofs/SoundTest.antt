@@ -17,8 +17,7 @@ use Rattle.machine.specs.Sound.{WriteOp, is_into, Tally, tally, Counts, Kept, Mo
 use Rattle.machine.specs.Tested.{SoundTested, WriteOpSays}
 use Rattle.machine.specs.declared.Lock.{Lock}
 use Rattle.machine.specs.declared.Rec.{Rec}
-use Rattle.machine.specs.declared.Mover.{Mover}
-use Rattle.machine.specs.declared.Mover.TheVariants.{Nobody, By}
+use Rattle.std.specs.Prelude.{None, Option, Some}
 use Rattle.machine.specs.declared.Place.{Place}
 use Rattle.machine.specs.declared.Place.TheVariants.{Idle, ReadTry, ReadCheck, ReadBack, Reading, WriteWait, WriteTake, Writing, WritePut}
 use Rattle.machine.proofs.Every.{Says, says_leb, says_ltb, says_eqb, says_so, says_bit, and_both, and_three, and_four, or_either, or_none, only_if, every_says}
@@ -86,9 +85,9 @@ module _ (q : Pred) (top n o : ℕ) (r : Rec) where
   says_kept WritePut = and_four (says_ltb _ _) (says_eqb _ _) (says_eqb _ _) (says_eqb _ _)
 
 -- ---- the clauses on the mover
-says_mover : (S : Scripts) (l : List Rec) (m : Mover) → Says (test_mover S l m) (Moves S l m)
-says_mover S l Nobody = (λ _. tt, λ _. refl)
-says_mover S l (By t) = and_four (says_ltb _ _) (says_ltb _ _) (says_eqb _ _) (says_eqb _ _)
+says_mover : (S : Scripts) (l : List Rec) (m : Option ℕ) → Says (test_mover S l m) (Moves S l m)
+says_mover S l None = (λ _. tt, λ _. refl)
+says_mover S l (Some t) = and_four (says_ltb _ _) (says_ltb _ _) (says_eqb _ _) (says_eqb _ _)
 
 pub sound_tested : SoundTested
 unfolding sound

@@ -17,12 +17,9 @@ use Rattle.machine.specs.Step.{Scripts, fits, entry_checks, entry_refusal, answe
 use Rattle.machine.specs.Sound.{is_into, inside_of, tally, Tally, KeptRec, Moves, Sound}
 use Rattle.machine.specs.Move.{Move, by_load_below, by_load_full, by_try_done, by_try_lost, by_check_clear, by_check_set, back, lend, release, by_exc_done, by_exc_lost, into_done, into_lost, by_wait_done, by_wait_more, take, take_last, put, store, drop_read, drop_write}
 use Rattle.machine.specs.declared.Did.{Did}
-use Rattle.machine.specs.declared.Out.{Out}
-use Rattle.machine.specs.declared.Out.TheVariants.{No, Yes}
+use Rattle.std.specs.Prelude.{Err, None, Ok, Option, Result, Some}
 use Rattle.machine.specs.declared.Lock.{Lock}
 use Rattle.machine.specs.declared.Rec.{Rec}
-use Rattle.machine.specs.declared.Mover.{Mover}
-use Rattle.machine.specs.declared.Mover.TheVariants.{Nobody, By}
 use Rattle.machine.specs.declared.Place.{Place}
 use Rattle.machine.specs.declared.Place.TheVariants.{Idle, ReadTry, ReadCheck, ReadBack, Reading, WriteWait, WriteTake, Writing, WritePut}
 use Rattle.machine.proofs.Sums.{sum_at, sum_le, all_set}
@@ -31,13 +28,13 @@ use Rattle.machine.proofs.Refusals.{passed as none_apply}
 use Rattle.machine.proofs.Keep.{moved, weighed, Own, Before, Holds, keep, bit_le, moving_le}
 
 -- ---- what no way changes, and whose the mover is
-pub data Mine (i : ℕ) : Mover → Type 0 where
-  nobody : Mine i Nobody
-  mine : Mine i (By i)
+pub data Mine (i : ℕ) : Option ℕ → Type 0 where
+  nobody : Mine i None
+  mine : Mine i (Some i)
 
-mine_of : (i : ℕ) (m : Mover) → may_go m i ≡ true → Mine i m
-mine_of i Nobody e = nobody
-mine_of i (By t) e = subst (λ (k : ℕ). Mine i (By k)) (sym (eqb-true t i e)) mine
+mine_of : (i : ℕ) (m : Option ℕ) → may_go m i ≡ true → Mine i m
+mine_of i None e = nobody
+mine_of i (Some t) e = subst (λ (k : ℕ). Mine i (Some k)) (sym (eqb-true t i e)) mine
 
 pub record Same (i : ℕ) (L M : Lock) : Type 0 where
   pub pred : M.pred ≡ L.pred
@@ -123,8 +120,8 @@ abbrev pub MoveOf : Scripts → Lock → List Rec → ℕ → Did → Type 0
 MoveOf S L l i d = Move i L (here l i) (op_of S l i) (val_of S l i) (here l i).place d
 
 -- the answer to an entry, taken apart: a refusal, or a way of the table with what the refusals leave
-pub answered {ℓ} : (P : Out → Type ℓ) (S : Scripts) (L : Lock) (l : List Rec) (i : ℕ) → ((k : ℕ) → P (No k))
-    → (Passed S L l i → (d : Did) → MoveOf S L l i d → P (Yes d)) → P (answer S L l i)
+pub answered {ℓ} : (P : Result Did ℕ → Type ℓ) (S : Scripts) (L : Lock) (l : List Rec) (i : ℕ) → ((k : ℕ) → P (Err k))
+    → (Passed S L l i → (d : Did) → MoveOf S L l i d → P (Ok d)) → P (answer S L l i)
 unfolding answer
 answered P S L l i refusal way =
     either_way P (eqb (entry_refusal S L l i) 0)
@@ -175,21 +172,21 @@ into_eq o h = go (eqb o into_inner) refl
 
 module _ (S : Scripts) (l : List Rec) (i : ℕ) (lt : i < length l) where
   -- the mover's clause, to and from the thread that steps
-  own_of : (m : Mover) → Mine i m → Moves S l m → (here l i).at < S.len i → Own m (rest S l i) (S.len i) (here l i).at (op_of S l i)
+  own_of : (m : Option ℕ) → Mine i m → Moves S l m → (here l i).at < S.len i → Own m (rest S l i) (S.len i) (here l i).at (op_of S l i)
   own_of m nobody ok more = omega arith
   own_of m mine ok more =
       let into : is_into (op_of S l i) ≡ 1 = ap is_into ok.2 in
       omega arith
 
-  of_own : (m : Mover) (s : Rec) → Mine i m → Own m (rest S l i) (S.len i) s.at (S.op i s.at) → Moves S (set l i s) m
+  of_own : (m : Option ℕ) (s : Rec) → Mine i m → Own m (rest S l i) (S.len i) s.at (S.op i s.at) → Moves S (set l i s) m
   of_own m s nobody o = tt
   of_own m s mine o =
       rw (length-set l i s, get_or-set_same l i s unbegun lt, set-set l i s unbegun) (lt, omega arith, into_eq (S.op i s.at) o.op, omega (arith, o))
 
-  calm_of : (L : Lock) (m : Mover) → Own m (rest S l i) (S.len i) (here l i).at (op_of S l i)
+  calm_of : (L : Lock) (m : Option ℕ) → Own m (rest S l i) (S.len i) (here l i).at (op_of S l i)
       → (op_of S l i ≡ into_inner → begun m i ≡ false → others l i ≡ 0) → op_of S l i ≡ into_inner → others l i ≡ 0
-  calm_of L Nobody o c e = c e refl
-  calm_of L (By t) o c e = omega (arith, o)
+  calm_of L None o c e = c e refl
+  calm_of L (Some t) o c e = omega (arith, o)
 
   -- what a sound state says to the thread that steps
   pub before : (L : Lock) → Sound S L l → Passed S L l i → Before L (S.len i) (S.op i) (rest S l i) (here l i) (val_of S l i)

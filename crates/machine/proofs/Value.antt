@@ -23,8 +23,7 @@ use Rattle.machine.specs.Trace.{put_by, current, moves_on, place_of, Told, Borro
 use Rattle.machine.specs.Demands.{PlacesTold, Demand2c, HoldsThrough, ReadersMatch, past8, at_work, holder}
 use Rattle.machine.specs.Move.{Move, by_load_below, by_load_full, by_try_done, by_try_lost, by_check_clear, by_check_set, back, lend, release, by_exc_done, by_exc_lost, into_done, into_lost, by_wait_done, by_wait_more, take, take_last, put, store, drop_read, drop_write}
 use Rattle.machine.specs.declared.Did.{Did}
-use Rattle.machine.specs.declared.Out.{Out}
-use Rattle.machine.specs.declared.Out.TheVariants.{No, Yes}
+use Rattle.std.specs.Prelude.{Err, Ok, Result}
 use Rattle.machine.specs.declared.Lock.{Lock}
 use Rattle.machine.specs.declared.Rec.{Rec}
 use Rattle.machine.specs.declared.Row.{Row}
@@ -122,10 +121,10 @@ told a k {X} x e = subst (λ (b : Bool). cond b X (Unit {0})) (eq-eqb a k e) x
 
 module _ (v : ℕ) (past : List Row) (S : Scripts) (L : Lock) (l : List Rec) (i : ℕ) where
   -- the latest row tells, and the state's values are as the trace has them
-  abbrev Next : Out → Type 0
+  abbrev Next : Result Did ℕ → Type 0
   Next out = let w = settle L l i out in Told S v (w.row ∷ past) × Values v (w.row ∷ past) S w.lock w.recs
 
-  refusal : Told S v past → Values v past S L l → (k : ℕ) → Next (No k)
+  refusal : Told S v past → Values v past S L l → (k : ℕ) → Next (Err k)
   unfolding Told current put_by place_of
   refusal so x k = (
     (λ e. absurd (omega arith), λ e. absurd (omega arith), λ e. absurd (omega arith), so),
@@ -140,7 +139,7 @@ module _ (v : ℕ) (past : List Row) (S : Scripts) (L : Lock) (l : List Rec) (i 
       same j true = stays _
       same j false = refl
 
-  accepts : Sound S L l → Told S v past → Values v past S L l → Passed S L l i → (d : Did) → MoveOf S L l i d → Next (Yes d)
+  accepts : Sound S L l → Told S v past → Values v past S L l → Passed S L l i → (d : Did) → MoveOf S L l i d → Next (Ok d)
   unfolding Told current put_by place_of
   accepts h so x p d mv =
       let lt = p.thread in

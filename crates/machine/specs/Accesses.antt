@@ -7,7 +7,7 @@ use Rattle.atomic.specs.Access.{Reply, old, failed, nothing, load, store, compar
 use Rattle.atomic.specs.Permission.{Left}
 use Rattle.cell.specs.Value.{put, take, borrow}
 use Rattle.cell.specs.Pred.{permits}
-use Rattle.cell.specs.declared.value.Content.{Content}
+use Rattle.std.specs.Prelude.{None, Option, Some}
 use Rattle.cell.specs.declared.Answer.{Answer}
 use Rattle.cell.specs.declared.Answer.TheVariants.{Value, Stored}
 use Rattle.machine.specs.Names.{acquire_read, borrows, release_read, acquire_write, release_write, drop_handle, into_inner, loads_rc, exchanges_rc, loads_exc, gives_back, borrows_cell, releases_rc, exchanges_exc, waits_rc, takes_cell, puts_cell, stores_exc, drops_handle, fails_rc, fails_exc}
@@ -17,7 +17,6 @@ use Rattle.machine.specs.Sound.{Sound}
 use Rattle.machine.specs.declared.Lock.{Lock}
 use Rattle.machine.specs.declared.Rec.{Rec}
 use Rattle.machine.specs.declared.Row.{Row}
-use Rattle.machine.specs.declared.Mover.TheVariants.{Nobody, By}
 use Rattle.machine.specs.declared.Place.TheVariants.{Idle, ReadTry, ReadCheck, ReadBack, Reading, WriteWait, WriteTake, Writing, WritePut}
 
 -- ---- what is done to the lock, L before and M after
@@ -30,7 +29,7 @@ abbrev pub OnExc : (Bool → Left Bool (Reply Bool)) → Reply Bool → Lock →
 OnExc access reply L M = ((access L.exc).answers ≡ reply) × (M.exc ≡ (access L.exc).leaves) × (M.rc ≡ L.rc) × (M.cell ≡ L.cell)
 
 -- an operation on the cell; flag and count stay
-abbrev pub OnCell : (Content → Left Content Answer) → Answer → Lock → Lock → Type 0
+abbrev pub OnCell : ((Option ℕ) → Left (Option ℕ) Answer) → Answer → Lock → Lock → Type 0
 OnCell access reply L M = ((access L.cell).answers ≡ reply) × (M.cell ≡ (access L.cell).leaves) × (M.exc ≡ L.exc) × (M.rc ≡ L.rc)
 
 -- no access: flag, count and cell stay
@@ -133,7 +132,7 @@ Does7 i L r o v M s got =
     (r.place ≡ Idle) × ((o ≡ acquire_write) ⊎ (o ≡ into_inner))
     × OnExc (compare_exchange beq false true) (old (eqb got 1)) L M × (got ≡ 0)
     × (s ≡ plain r.at WriteWait)
-    × (M.mover ≡ cond (eqb o into_inner) (By i) L.mover) × (M.finished ≡ L.finished)
+    × (M.mover ≡ cond (eqb o into_inner) (Some i) L.mover) × (M.finished ≡ L.finished)
     × SameDrops L M
 
 abbrev pub Code7 : Type 0
@@ -155,7 +154,7 @@ Does9 i L r o v M s got =
     (r.place ≡ WriteTake) × ((o ≡ acquire_write) ⊎ (o ≡ into_inner))
     × OnCell take (Value got) L M
     × (s ≡ cond (eqb o acquire_write) (rec_at (r.at + 1) Writing 0 got) (plain (r.at + 1) Idle))
-    × (M.mover ≡ cond (eqb o into_inner) Nobody L.mover) × (M.finished ≡ cond (eqb o into_inner) true L.finished)
+    × (M.mover ≡ cond (eqb o into_inner) None L.mover) × (M.finished ≡ cond (eqb o into_inner) true L.finished)
     × SameDrops L M
 
 abbrev pub Code9 : Type 0
@@ -210,7 +209,7 @@ Does14 i L r o v M s got =
     (r.place ≡ Idle) × ((o ≡ acquire_write) ⊎ (o ≡ into_inner))
     × OnExc (compare_exchange beq false true) (failed (eqb got 1)) L M × (got ≡ 1)
     × (s ≡ plain r.at Idle)
-    × (M.mover ≡ cond (eqb o into_inner) (By i) L.mover) × (M.finished ≡ L.finished)
+    × (M.mover ≡ cond (eqb o into_inner) (Some i) L.mover) × (M.finished ≡ L.finished)
     × SameDrops L M
 
 abbrev pub Code14 : Type 0

@@ -3,7 +3,7 @@ use Rattle.std.specs.Prelude.{ℕ, ◌≡◌, true, false, List, [], ◌∷◌, 
 use Rattle.atomic.specs.Cases.{CaseJ}
 use Rattle.cell.specs.declared.pred.Pred.{Pred}
 use Rattle.cell.specs.declared.pred.Pred.TheVariants.{Any, Either}
-use Rattle.cell.specs.declared.value.Content.TheVariants.{Empty, Full}
+use Rattle.std.specs.Prelude.{None, Ok, Some}
 use Rattle.machine.specs.Words.{rec_at, plain, count, unbegun, unused}
 use Rattle.machine.specs.Lists.{Lent, lists, scripts_of, beside}
 use Rattle.machine.specs.Setup.{fresh, setup, setup_recs}
@@ -14,8 +14,6 @@ use Rattle.machine.specs.Drain.{drain_lent}
 use Rattle.machine.specs.declared.Lock.{Lock}
 use Rattle.machine.specs.declared.Rec.{Rec}
 use Rattle.machine.specs.declared.Row.{Row}
-use Rattle.machine.specs.declared.Start.TheVariants.{Made}
-use Rattle.machine.specs.declared.Mover.TheVariants.{Nobody}
 use Rattle.machine.specs.declared.Place.TheVariants.{Idle, ReadTry, ReadCheck, Reading, WriteWait, Writing}
 
 abbrev row : ℕ → ℕ → ℕ → ℕ → ℕ → ℕ → Row
@@ -36,7 +34,7 @@ abbrev pub CaseA : Type 0
 CaseA =
     let l = plain 9 Writing ∷ [] in
     let left = run_lent script_a (unused (Either 5 13) 3 5) (fresh 1) (0 ∷ 0 ∷ 0 ∷ 0 ∷ 0 ∷ 0 ∷ []) 6 (replicate 42 8) in
-    (setup (Either 5 13) 3 5 script_a 1 ≡ Made (unused (Either 5 13) 3 5))
+    (setup (Either 5 13) 3 5 script_a 1 ≡ Ok (unused (Either 5 13) 3 5))
     × (setup_recs (Either 5 13) 3 5 script_a l ≡ fresh 1)
     × (left.n ≡ 6)
     × (left.done ≡ 5)
@@ -100,7 +98,7 @@ CaseI =
     (w.rows ≡ row 0 7 0 0 1 0 ∷ row 0 8 0 0 1 0 ∷ row 0 9 0 5 1 0 ∷ [])
     × (w.recs ≡ plain 1 Idle ∷ unbegun ∷ [])
     × (w.lock
-    ≡ record { exc = true; rc = count 0; cell = Empty; pred = Any; top = count 3; reads = count 0; writes = count 0; mover = Nobody; finished = true })
+    ≡ record { exc = true; rc = count 0; cell = None; pred = Any; top = count 3; reads = count 0; writes = count 0; mover = None; finished = true })
 
 -- ---- K: either 5 or 13; the release of 7 is 16, and again 16; the writer keeps the value taken
 abbrev pub CaseK : Type 0
@@ -114,7 +112,7 @@ starving = lists (2 ∷ 2 ∷ 2 ∷ []) (1 ∷ 3 ∷ 1 ∷ 3 ∷ 4 ∷ 5 ∷ [])
 
 -- the state after 0, 0, 2
 abbrev pub lock_l : Lock
-lock_l = record { exc = true; rc = count 1; cell = Full 0; pred = Any; top = count 2; reads = count 0; writes = count 0; mover = Nobody; finished = false }
+lock_l = record { exc = true; rc = count 1; cell = Some 0; pred = Any; top = count 2; reads = count 0; writes = count 0; mover = None; finished = false }
 
 abbrev pub recs_l : List Rec
 recs_l = plain 0 ReadCheck ∷ unbegun ∷ plain 0 WriteWait ∷ []

@@ -14,14 +14,14 @@ use Rattle.machine.specs.Trace.{current, place_of, Told, Borrowed}
 use Rattle.machine.specs.declared.Lock.{Lock}
 use Rattle.machine.specs.declared.Rec.{Rec}
 use Rattle.machine.specs.declared.Place.{Place}
-use Rattle.machine.specs.declared.Start.TheVariants.{Made, Refused}
+use Rattle.std.specs.Prelude.{Err, Ok}
 use Rattle.machine.specs.declared.Place.TheVariants.{Reading, WriteTake, Writing, WritePut}
 
 -- ---- soundness
 abbrev pub SetupIsSound : Type 0
 SetupIsSound =
     (q : Pred) (m v : ℕ) (s : Lent) (l : List Rec) → setup_refusal q m v s (length l) ≡ 0
-    → (setup q m v s (length l) ≡ Made (unused q m v))
+    → (setup q m v s (length l) ≡ Ok (unused q m v))
     × (setup_recs q m v s l ≡ fresh (length l))
     × Sound (scripts_of s) (unused q m v) (fresh (length l))
 
@@ -29,7 +29,7 @@ SetupIsSound =
 abbrev pub RefusedSetup : Type 0
 RefusedSetup =
     (q : Pred) (m v : ℕ) (s : Lent) (l : List Rec) → setup_refusal q m v s (length l) ≢ 0
-    → (setup q m v s (length l) ≡ Refused (beside s (setup_refusal q m v s (length l)))) × (setup_recs q m v s l ≡ l)
+    → (setup q m v s (length l) ≡ Err (beside s (setup_refusal q m v s (length l)))) × (setup_recs q m v s l ≡ l)
 
 -- every step keeps it, accepted or refused, from every sound state
 abbrev pub StepKeepsSound : Type 0

@@ -9,8 +9,9 @@ use Rattle.machine.specs.Lists.{Lent, lists, scripts_of, beside}
 use Rattle.machine.specs.Setup.{fresh, setup}
 use Rattle.machine.specs.Run.{Ran, run}
 use Rattle.machine.specs.declared.Row.{Row}
-use Rattle.machine.specs.declared.Start.{Start}
-use Rattle.machine.specs.declared.Start.TheVariants.{Made, Refused}
+use Rattle.std.specs.Prelude.{Err, Ok, Result}
+use Rattle.machine.specs.declared.Refusal.{Refusal}
+use Rattle.machine.specs.declared.Lock.{Lock}
 use Rattle.machine.specs.declared.Place.TheVariants.{Idle, Reading}
 
 -- the source's count is a usize
@@ -26,7 +27,7 @@ abbrev got : Ran → ℕ → ℕ
 got w k = (get_or w.rows k (row 0 0 0 0 0)).got
 
 -- new, with the first value v and the predicate q; and the lock that it makes, run
-abbrev new : Lent → Pred → ℕ → Start
+abbrev new : Lent → Pred → ℕ → Result Lock Refusal
 new s q v = setup q most v s (length s.lens)
 
 abbrev ran : Lent → Pred → ℕ → List ℕ → Ran
@@ -66,7 +67,7 @@ rows1 =
 abbrev pub Example1 : Type 0
 Example1 =
     let w = ran script1 (Either 5 13) 5 schedule1 in
-    (new script1 (Either 5 13) 5 ≡ Made (unused (Either 5 13) most 5))
+    (new script1 (Either 5 13) 5 ≡ Ok (unused (Either 5 13) most 5))
     × (w.rows ≡ rows1)
     -- val is 5 or 13, and *val1 is *val2
     × ((got w 2 ≡ 5) ⊎ (got w 2 ≡ 13))
@@ -75,7 +76,7 @@ Example1 =
     × (w.lock ≡ unused (Either 5 13) most 13)
     × (w.recs ≡ plain 5 Idle ∷ plain 3 Idle ∷ [])
     -- only 5 or 13 can be stored
-    × (new script1 (Either 5 13) 7 ≡ Refused (beside script1 first_value))
+    × (new script1 (Either 5 13) 7 ≡ Err (beside script1 first_value))
 
 -- ---- example2: a lock for even numbers and one for odd ones
 -- neither handle is released
@@ -93,13 +94,13 @@ rows2 v = row 0 loads_rc 0 0 0 ∷ row 0 exchanges_rc 0 0 1 ∷ row 0 loads_exc 
 abbrev ParityLock : ℕ → ℕ → ℕ → Type 0
 ParityLock k v u =
     let w = ran script2 (Parity k) v schedule2 in
-    (new script2 (Parity k) v ≡ Made (unused (Parity k) most v))
+    (new script2 (Parity k) v ≡ Ok (unused (Parity k) most v))
     × (w.rows ≡ rows2 v)
     × (got w 3 % 2 ≡ k)
     -- at the end the handle is still held
     × (w.lock ≡ with_rc (unused (Parity k) most v) 1)
     × (w.recs ≡ plain 2 Reading ∷ [])
-    × (new script2 (Parity k) u ≡ Refused (beside script2 first_value))
+    × (new script2 (Parity k) u ≡ Err (beside script2 first_value))
 
 abbrev pub Example2 : Type 0
 Example2 = ParityLock 0 20 23 × ParityLock 1 23 20

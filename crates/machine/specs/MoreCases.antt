@@ -2,7 +2,7 @@
 -- value taken, the bound of a drain, what a failed exchange found. Locks, records and rows are written out.
 use Rattle.std.specs.Prelude.{ℕ, ◌^◌, ◌-◌, ◌≡◌, true, false, List, [], ◌∷◌, map, replicate}
 use Rattle.cell.specs.declared.pred.Pred.TheVariants.{Any, Either}
-use Rattle.cell.specs.declared.value.Content.TheVariants.{Empty, Full}
+use Rattle.std.specs.Prelude.{None, Some}
 use Rattle.machine.specs.Numbers.{lock_of, rec_of, idle, alone, two}
 use Rattle.machine.specs.Lists.{Lent, lists, scripts_of}
 use Rattle.machine.specs.Run.{run}
@@ -11,7 +11,6 @@ use Rattle.machine.specs.Drain.{drain}
 use Rattle.machine.specs.Cases.{starving, lock_l, recs_l}
 use Rattle.machine.specs.declared.Lock.{Lock}
 use Rattle.machine.specs.declared.Row.{Row}
-use Rattle.machine.specs.declared.Mover.TheVariants.{Nobody, By}
 use Rattle.machine.specs.declared.Place.TheVariants.{Idle, ReadTry, ReadCheck, Reading, WriteWait, Writing, WritePut}
 
 abbrev row : ℕ → ℕ → ℕ → ℕ → ℕ → ℕ → Row
@@ -19,7 +18,7 @@ row thread access answer got exc rc = record { thread = thread; access = access;
 
 -- any value is permitted, and 5 is in the cell; M is m, and so many readers are counted
 abbrev counting : ℕ → ℕ → Lock
-counting m n = lock_of Any m false n (Full 5) 0 0 Nobody false
+counting m n = lock_of Any m false n (Some 5) 0 0 None false
 
 -- ---- a: after a dropped write the first step of into_inner fails each time, and makes the mover all the same: the third thread is refused
 abbrev after_drop : Lent
@@ -37,7 +36,7 @@ FailedInto =
     ∷ row 2 0 13 0 1 0
     ∷ row 1 14 0 1 1 0
     ∷ [])
-    × (w.lock ≡ lock_of Any 3 true 0 Empty 0 1 (By 1) false)
+    × (w.lock ≡ lock_of Any 3 true 0 None 0 1 (Some 1) false)
     × (w.recs ≡ rec_of 2 Idle 0 0 ∷ idle ∷ idle ∷ [])
 
 -- ---- b: a dropped read leaves the count, a dropped write the flag and the empty cell; the records are Idle, one operation on
@@ -45,14 +44,14 @@ abbrev pub DroppedRead : Type 0
 DroppedRead =
     let w = run (scripts_of (alone (1 ∷ 6 ∷ []))) (counting 3 0) (idle ∷ []) (0 ∷ 0 ∷ 0 ∷ 0 ∷ []) in
     (w.rows ≡ row 0 1 0 0 0 0 ∷ row 0 2 0 0 0 1 ∷ row 0 3 0 0 0 1 ∷ row 0 12 0 0 0 1 ∷ [])
-    × (w.lock ≡ lock_of Any 3 false 1 (Full 5) 1 0 Nobody false)
+    × (w.lock ≡ lock_of Any 3 false 1 (Some 5) 1 0 None false)
     × (w.recs ≡ rec_of 2 Idle 0 0 ∷ [])
 
 abbrev pub DroppedWrite : Type 0
 DroppedWrite =
     let w = run (scripts_of (alone (4 ∷ 6 ∷ []))) (counting 3 0) (idle ∷ []) (0 ∷ 0 ∷ 0 ∷ 0 ∷ []) in
     (w.rows ≡ row 0 7 0 0 1 0 ∷ row 0 8 0 0 1 0 ∷ row 0 9 0 5 1 0 ∷ row 0 12 0 0 1 0 ∷ [])
-    × (w.lock ≡ lock_of Any 3 true 0 Empty 0 1 Nobody false)
+    × (w.lock ≡ lock_of Any 3 true 0 None 0 1 None false)
     × (w.recs ≡ rec_of 2 Idle 0 0 ∷ [])
 
 -- ---- c: five threads read at once; M is the source's
@@ -102,11 +101,11 @@ SeenTwo =
 abbrev pub TakenFive : Type 0
 TakenFive =
     let writers = lists (2 ∷ 2 ∷ []) (4 ∷ 5 ∷ 4 ∷ 5 ∷ []) (0 ∷ 5 ∷ 0 ∷ 13 ∷ []) in
-    let a = run (scripts_of writers) (lock_of (Either 5 13) 3 false 0 (Full 13) 0 0 Nobody false) (idle ∷ idle ∷ []) (0 ∷ 0 ∷ 0 ∷ []) in
+    let a = run (scripts_of writers) (lock_of (Either 5 13) 3 false 0 (Some 13) 0 0 None false) (idle ∷ idle ∷ []) (0 ∷ 0 ∷ 0 ∷ []) in
     let b = run (scripts_of writers) a.lock a.recs (0 ∷ 0 ∷ 1 ∷ 1 ∷ 1 ∷ []) in
     (a.recs ≡ rec_of 1 Writing 0 13 ∷ idle ∷ [])
     × (b.rows ≡ row 0 10 0 5 1 0 ∷ row 0 11 0 0 0 0 ∷ row 1 7 0 0 1 0 ∷ row 1 8 0 0 1 0 ∷ row 1 9 0 5 1 0 ∷ [])
-    × (b.lock ≡ lock_of (Either 5 13) 3 true 0 Empty 0 0 Nobody false)
+    × (b.lock ≡ lock_of (Either 5 13) 3 true 0 None 0 0 None false)
     × (b.recs ≡ rec_of 2 Idle 0 0 ∷ rec_of 1 Writing 0 5 ∷ [])
 
 -- ---- g: the bound of a drain: three for the thread, and the cost of each operation from the script place on, one under way in full
@@ -137,7 +136,7 @@ abbrev pub FoundUp : Type 0
 FoundUp =
     let w = run (scripts_of (two (4 ∷ []) (4 ∷ []))) (counting 3 0) (idle ∷ idle ∷ []) (0 ∷ 1 ∷ []) in
     (w.rows ≡ row 0 7 0 0 1 0 ∷ row 1 14 0 1 1 0 ∷ [])
-    × (w.lock ≡ lock_of Any 3 true 0 (Full 5) 0 0 Nobody false)
+    × (w.lock ≡ lock_of Any 3 true 0 (Some 5) 0 0 None false)
     × (w.recs ≡ rec_of 0 WriteWait 0 0 ∷ idle ∷ [])
 
 abbrev pub MoreCases : Type 0

@@ -3,8 +3,7 @@
 use Rattle.std.specs.Prelude.{ℕ, ◌^◌, ◌-◌, ◌≡◌, Bool, true, false, List, [], ◌∷◌, ◌++◌, length, replicate}
 use Rattle.cell.specs.declared.pred.Pred.{Pred}
 use Rattle.cell.specs.declared.pred.Pred.TheVariants.{Any, Either, Parity}
-use Rattle.cell.specs.declared.value.Content.{Content}
-use Rattle.cell.specs.declared.value.Content.TheVariants.{Empty, Full}
+use Rattle.std.specs.Prelude.{Err, None, Ok, Option, Some}
 use Rattle.machine.specs.Lists.{Lent, lists}
 use Rattle.machine.specs.Setup.{setup, setup_recs}
 use Rattle.machine.specs.Run.{run_lent}
@@ -12,11 +11,8 @@ use Rattle.machine.specs.Drain.{drain_lent}
 use Rattle.machine.specs.declared.Lock.{Lock}
 use Rattle.machine.specs.declared.Rec.{Rec}
 use Rattle.machine.specs.declared.Refusal.{Refusal}
-use Rattle.machine.specs.declared.Mover.{Mover}
-use Rattle.machine.specs.declared.Mover.TheVariants.{Nobody, By}
 use Rattle.machine.specs.declared.Place.{Place}
 use Rattle.machine.specs.declared.Place.TheVariants.{Idle, ReadTry, Reading, WriteWait, Writing, WritePut}
-use Rattle.machine.specs.declared.Start.TheVariants.{Made, Refused}
 
 -- ---- values written out
 -- number, thread, script place
@@ -24,7 +20,7 @@ abbrev pub refusal : ℕ → ℕ → ℕ → Refusal
 refusal number thread place = record { number = number; thread = thread; place = place }
 
 -- predicate, top; flag, count, cell; dropped reads, dropped writes, mover, finished
-abbrev pub lock_of : Pred → ℕ → Bool → ℕ → Content → ℕ → ℕ → Mover → Bool → Lock
+abbrev pub lock_of : Pred → ℕ → Bool → ℕ → Option ℕ → ℕ → ℕ → Option ℕ → Bool → Lock
 lock_of q m exc rc cell reads writes mover finished =
     record {
       exc = exc;
@@ -55,10 +51,10 @@ two a b = lists (length a ∷ length b ∷ []) (a ++ b) (replicate (length (a ++
 
 -- ---- setup, with the predicate, the top, the first value, the scripts and so many records
 abbrev NotMade : Pred → ℕ → ℕ → Lent → ℕ → Refusal → Type 0
-NotMade q m v s records why = setup q m v s records ≡ Refused why
+NotMade q m v s records why = setup q m v s records ≡ Err why
 
 abbrev IsMade : Pred → ℕ → ℕ → Lent → ℕ → Type 0
-IsMade q m v s records = setup q m v s records ≡ Made (lock_of q m false 0 (Full v) 0 0 Nobody false)
+IsMade q m v s records = setup q m v s records ≡ Ok (lock_of q m false 0 (Some v) 0 0 None false)
 
 -- 1 for no thread and for 17; 16 are not too many, and their records are made anew
 abbrev pub Setup1 : Type 0
@@ -92,7 +88,7 @@ Setup4 =
 -- ---- 5, 6 and 7, with setup, with run from a state that setup makes, and with drain from there
 -- a lock that nobody has used, and n records
 abbrev new_lock : Lock
-new_lock = lock_of Any 3 false 0 (Full 5) 0 0 Nobody false
+new_lock = lock_of Any 3 false 0 (Some 5) 0 0 None false
 
 abbrev new_recs : ℕ → List Rec
 new_recs n = replicate n idle
@@ -159,10 +155,10 @@ DrainSays s L l why = (drain_lent s L l).refusal ≡ why
 
 -- a lock whose flag is up, with no writer, so that it is not sound; and one with a dropped read, so that no script is tidy
 abbrev wrong_lock : Lock
-wrong_lock = lock_of Any 3 true 0 (Full 5) 0 0 Nobody false
+wrong_lock = lock_of Any 3 true 0 (Some 5) 0 0 None false
 
 abbrev dropped_lock : Lock
-dropped_lock = lock_of Any 3 false 1 (Full 5) 1 0 Nobody false
+dropped_lock = lock_of Any 3 false 1 (Some 5) 1 0 None false
 
 -- 10 for a state that is not sound, for no thread and for 17; 16 are not too many
 abbrev pub Run10 : Type 0
@@ -207,9 +203,9 @@ DrainOrder =
 abbrev pub Untidy : Type 0
 Untidy =
     DrainSays (alone []) dropped_lock (new_recs 1) (refusal 17 0 0)
-    × DrainSays (alone []) (lock_of Any 3 true 0 Empty 0 1 Nobody false) (new_recs 1) (refusal 17 0 0)
-    × DrainSays (alone (7 ∷ [])) (lock_of Any 3 false 0 (Full 5) 0 0 (By 0) false) (new_recs 1) (refusal 17 0 0)
-    × DrainSays (alone []) (lock_of Any 3 true 0 Empty 0 0 Nobody true) (new_recs 1) (refusal 17 0 0)
+    × DrainSays (alone []) (lock_of Any 3 true 0 None 0 1 None false) (new_recs 1) (refusal 17 0 0)
+    × DrainSays (alone (7 ∷ [])) (lock_of Any 3 false 0 (Some 5) 0 0 (Some 0) false) (new_recs 1) (refusal 17 0 0)
+    × DrainSays (alone []) (lock_of Any 3 true 0 None 0 0 None true) (new_recs 1) (refusal 17 0 0)
 
 -- the script of one thread, from setup
 abbrev DrainOf : List ℕ → Refusal → Type 0
@@ -232,15 +228,15 @@ UntidyScripts =
     × DrainOf (1 ∷ 2 ∷ 2 ∷ 3 ∷ 1 ∷ 3 ∷ 4 ∷ 5 ∷ []) (refusal 0 0 0)
 
 -- of the values, with 5 or 13: 7 is not permitted, in an operation to come and in one that has put already
-abbrev either : Bool → Content → Lock
-either exc cell = lock_of (Either 5 13) 3 exc 0 cell 0 0 Nobody false
+abbrev either : Bool → Option ℕ → Lock
+either exc cell = lock_of (Either 5 13) 3 exc 0 cell 0 0 None false
 
 abbrev pub UntidyValues : Type 0
 UntidyValues =
-    DrainSays (lists (2 ∷ []) (4 ∷ 5 ∷ []) (0 ∷ 7 ∷ [])) (either false (Full 5)) (new_recs 1) (refusal 17 0 0)
-    × DrainSays (lists (2 ∷ []) (4 ∷ 5 ∷ []) (0 ∷ 13 ∷ [])) (either false (Full 5)) (new_recs 1) (refusal 0 0 0)
-    × DrainSays (lists (1 ∷ []) (5 ∷ []) (7 ∷ [])) (either true (Full 5)) (rec_of 0 WritePut 0 0 ∷ []) (refusal 17 0 0)
-    × DrainSays (lists (1 ∷ []) (5 ∷ []) (13 ∷ [])) (either true (Full 5)) (rec_of 0 WritePut 0 0 ∷ []) (refusal 0 0 0)
+    DrainSays (lists (2 ∷ []) (4 ∷ 5 ∷ []) (0 ∷ 7 ∷ [])) (either false (Some 5)) (new_recs 1) (refusal 17 0 0)
+    × DrainSays (lists (2 ∷ []) (4 ∷ 5 ∷ []) (0 ∷ 13 ∷ [])) (either false (Some 5)) (new_recs 1) (refusal 0 0 0)
+    × DrainSays (lists (1 ∷ []) (5 ∷ []) (7 ∷ [])) (either true (Some 5)) (rec_of 0 WritePut 0 0 ∷ []) (refusal 17 0 0)
+    × DrainSays (lists (1 ∷ []) (5 ∷ []) (13 ∷ [])) (either true (Some 5)) (rec_of 0 WritePut 0 0 ∷ []) (refusal 0 0 0)
 
 -- ---- entries: a run of one entry for thread i is refused, and its row has this answer, flag and count
 abbrev RowSays : Lent → Lock → List Rec → ℕ → ℕ → ℕ → ℕ → Type 0
@@ -251,16 +247,16 @@ reading = rec_of 0 Reading 0 0
 
 -- locks with so many readers; with a writer that took 5; with a mover; finished
 abbrev counted : ℕ → Lock
-counted n = lock_of Any 3 false n (Full 5) 0 0 Nobody false
+counted n = lock_of Any 3 false n (Some 5) 0 0 None false
 
 abbrev taken_lock : Lock
-taken_lock = lock_of (Either 5 13) 3 true 0 Empty 0 0 Nobody false
+taken_lock = lock_of (Either 5 13) 3 true 0 None 0 0 None false
 
 abbrev moved_by : ℕ → Lock
-moved_by t = lock_of Any 3 false 0 (Full 5) 0 0 (By t) false
+moved_by t = lock_of Any 3 false 0 (Some 5) 0 0 (Some t) false
 
 abbrev finished_lock : Lock
-finished_lock = lock_of Any 3 true 0 Empty 0 0 Nobody true
+finished_lock = lock_of Any 3 true 0 None 0 0 None true
 
 -- 11: the first number that is no thread, and the largest
 abbrev pub Entry11 : Type 0
@@ -297,7 +293,7 @@ Entry14 =
     × (AtReading 1 × AtReading 4 × AtReading 5 × AtReading 7)
     × (AtWriting 1 × AtWriting 2 × AtWriting 3 × AtWriting 4 × AtWriting 7)
     -- nor does 7 fit Reading where its thread is the mover already
-    × RowSays (alone (7 ∷ [])) (lock_of Any 3 false 1 (Full 5) 0 0 (By 0) false) (reading ∷ []) 0 14 0 1
+    × RowSays (alone (7 ∷ [])) (lock_of Any 3 false 1 (Some 5) 0 0 (Some 0) false) (reading ∷ []) 0 14 0 1
 
 -- 15: another record, before or behind, is not Idle
 abbrev pub Entry15 : Type 0
@@ -313,10 +309,10 @@ Entry16 = RowSays (lists (1 ∷ []) (5 ∷ []) (7 ∷ [])) taken_lock (rec_of 0 
 -- is cleared and the release ends.
 abbrev pub NotAskedAgain : Type 0
 NotAskedAgain =
-    let left = run_lent (lists (1 ∷ []) (5 ∷ []) (7 ∷ [])) (either true (Full 5)) (rec_of 0 WritePut 0 0 ∷ []) (0 ∷ []) 1 (replicate 6 9) in
+    let left = run_lent (lists (1 ∷ []) (5 ∷ []) (7 ∷ [])) (either true (Some 5)) (rec_of 0 WritePut 0 0 ∷ []) (0 ∷ []) 1 (replicate 6 9) in
     (left.refusal ≡ refusal 0 0 0)
     × (left.trace ≡ 0 ∷ 11 ∷ 0 ∷ 0 ∷ 0 ∷ 0 ∷ [])
-    × (left.lock ≡ either false (Full 5))
+    × (left.lock ≡ either false (Some 5))
     × (left.recs ≡ rec_of 1 Idle 0 0 ∷ [])
 
 -- the lowest first, where two or more apply
@@ -331,7 +327,7 @@ EntryOrder =
     × RowSays (alone (3 ∷ [])) finished_lock (idle ∷ []) 0 13 1 0
     × RowSays (two (7 ∷ []) (3 ∷ [])) (moved_by 0) (idle ∷ idle ∷ []) 1 13 0 0
     -- 13 and 15
-    × RowSays (two (7 ∷ []) (7 ∷ [])) (lock_of Any 3 true 0 (Full 5) 0 0 (By 0) false) (rec_of 0 WriteWait 0 0 ∷ idle ∷ []) 1 13 1 0
+    × RowSays (two (7 ∷ []) (7 ∷ [])) (lock_of Any 3 true 0 (Some 5) 0 0 (Some 0) false) (rec_of 0 WriteWait 0 0 ∷ idle ∷ []) 1 13 1 0
     -- 14 and 15
     × RowSays (two (7 ∷ []) (3 ∷ [])) (counted 2) (reading ∷ reading ∷ []) 0 14 0 2
 

@@ -7,8 +7,9 @@ use Rattle.machine.specs.Words.{unbegun, unused}
 use Rattle.machine.specs.Refusals.{Check, gives, lowest}
 use Rattle.machine.specs.Lists.{Lent, list_checks, beside}
 use Rattle.machine.specs.declared.Rec.{Rec}
-use Rattle.machine.specs.declared.Start.{Start}
-use Rattle.machine.specs.declared.Start.TheVariants.{Made, Refused}
+use Rattle.std.specs.Prelude.{Err, Ok, Result}
+use Rattle.machine.specs.declared.Refusal.{Refusal}
+use Rattle.machine.specs.declared.Lock.{Lock}
 
 -- n records after setup
 abbrev pub fresh : ℕ → List Rec
@@ -27,10 +28,10 @@ unfoldable pub setup_refusal : Pred → ℕ → ℕ → Lent → ℕ → ℕ
 setup_refusal q m v s records = lowest (setup_checks q m v s records)
 
 -- what setup answers, and the records as it leaves them
-unfoldable pub setup : Pred → ℕ → ℕ → Lent → ℕ → Start
+unfoldable pub setup : Pred → ℕ → ℕ → Lent → ℕ → Result Lock Refusal
 setup q m v s records =
     let k = setup_refusal q m v s records in
-    cond (eqb k 0) (Made (unused q m v)) (Refused (beside s k))
+    cond (eqb k 0) (Ok (unused q m v)) (Err (beside s k))
 
 unfoldable pub setup_recs : Pred → ℕ → ℕ → Lent → List Rec → List Rec
 setup_recs q m v s l = cond (eqb (setup_refusal q m v s (length l)) 0) (fresh (length l)) l

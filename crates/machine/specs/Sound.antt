@@ -9,8 +9,7 @@ use Rattle.machine.specs.Words.{bit, is, is_at, moving}
 use Rattle.machine.specs.Step.{Scripts, sum, busy, others, here}
 use Rattle.machine.specs.declared.Lock.{Lock}
 use Rattle.machine.specs.declared.Rec.{Rec}
-use Rattle.machine.specs.declared.Mover.{Mover}
-use Rattle.machine.specs.declared.Mover.TheVariants.{Nobody, By}
+use Rattle.std.specs.Prelude.{None, Option, Some}
 use Rattle.machine.specs.declared.Place.{Place}
 use Rattle.machine.specs.declared.Place.TheVariants.{Idle, ReadTry, ReadCheck, ReadBack, Reading, WriteWait, WriteTake, Writing, WritePut}
 
@@ -95,9 +94,9 @@ abbrev pub KeptRec : Pred → ℕ → ℕ → (ℕ → ℕ) → Rec → Type 0
 KeptRec q top n ops r = Kept q top n (ops r.at) r r.place
 
 -- a mover is a thread that there is, at into_inner, the others Idle
-abbrev pub Moves : Scripts → List Rec → Mover → Type 0
-Moves S l Nobody = Unit {0}
-Moves S l (By t) = (t < length l) × ((here l t).at < S.len t) × (S.op t (here l t).at ≡ into_inner) × (others l t ≡ 0)
+abbrev pub Moves : Scripts → List Rec → Option ℕ → Type 0
+Moves S l None = Unit {0}
+Moves S l (Some t) = (t < length l) × ((here l t).at < S.len t) × (S.op t (here l t).at ≡ into_inner) × (others l t ≡ 0)
 
 pub record Sound (S : Scripts) (L : Lock) (l : List Rec) : Type 0 where
   pub top : 1 ≤ L.top.0
@@ -158,9 +157,9 @@ abbrev pub test_rec : Pred → ℕ → ℕ → (ℕ → ℕ) → Rec → Bool
 test_rec q top n ops r =
     in_range n r r.place && (has_its (ops r.at) r.place && (keeps_seen top r r.place && keeps_taken q r r.place))
 
-abbrev pub test_mover : Scripts → List Rec → Mover → Bool
-test_mover S l Nobody = true
-test_mover S l (By t) = ltb t (length l) && (ltb (here l t).at (S.len t) && (eqb (S.op t (here l t).at) into_inner && eqb (others l t) 0))
+abbrev pub test_mover : Scripts → List Rec → Option ℕ → Bool
+test_mover S l None = true
+test_mover S l (Some t) = ltb t (length l) && (ltb (here l t).at (S.len t) && (eqb (S.op t (here l t).at) into_inner && eqb (others l t) 0))
 
 unfoldable pub sound : Scripts → Lock → List Rec → Bool
 sound S L l =

@@ -1,7 +1,7 @@
 -- One entry of a schedule: the table of places and accesses, which operation fits which place, the refusals 11 to 16, and what
 -- the entry leaves.
 use Rattle.std.specs.Prelude.{ℕ, suc, ◌+◌, ◌-◌, Bool, true, false, ◌||◌, ◌&&◌, not, cond, List, [], ◌∷◌, eqb, ltb, leb, length, get_or, set}
-use Rattle.cell.specs.declared.value.Content.TheVariants.{Empty, Full}
+use Rattle.std.specs.Prelude.{Err, None, Ok, Result, Some}
 use Rattle.cell.specs.Value.{kept}
 use Rattle.cell.specs.Pred.{permits}
 use Rattle.machine.specs.Names.{acquire_read, borrows, release_read, acquire_write, release_write, drop_handle, into_inner, no_access, loads_rc, exchanges_rc, loads_exc, gives_back, borrows_cell, releases_rc, exchanges_exc, waits_rc, takes_cell, puts_cell, stores_exc, drops_handle, fails_rc, fails_exc, no_thread, script_finished, lock_gone, does_not_fit, others_busy, not_permitted}
@@ -11,9 +11,6 @@ use Rattle.machine.specs.declared.Lock.{Lock}
 use Rattle.machine.specs.declared.Rec.{Rec}
 use Rattle.machine.specs.declared.Row.{Row}
 use Rattle.machine.specs.declared.Did.{Did}
-use Rattle.machine.specs.declared.Out.{Out}
-use Rattle.machine.specs.declared.Out.TheVariants.{No, Yes}
-use Rattle.machine.specs.declared.Mover.TheVariants.{By}
 use Rattle.machine.specs.declared.Place.{Place}
 use Rattle.machine.specs.declared.Place.TheVariants.{Idle, ReadTry, ReadCheck, ReadBack, Reading, WriteWait, WriteTake, Writing, WritePut}
 
@@ -70,7 +67,7 @@ exc_lost L r = does L (goes r Idle) fails_exc 1
 
 -- the first step of into_inner, done or lost, makes its thread the mover
 abbrev pub claimed : Lock → ℕ → Lock
-claimed L i = with_mover L (By i)
+claimed L i = with_mover L (Some i)
 
 abbrev pub unread : Lock → Bool
 unread L = eqb L.rc.0 0
@@ -83,13 +80,13 @@ wait_more L r = does L (goes r WriteWait) waits_rc L.rc.0
 
 -- the record keeps the value taken
 abbrev pub taken : Lock → Rec → Did
-taken L r = does (with_cell L Empty) (rec_at (r.at + 1) Writing 0 (kept L.cell)) takes_cell (kept L.cell)
+taken L r = does (with_cell L None) (rec_at (r.at + 1) Writing 0 (kept L.cell)) takes_cell (kept L.cell)
 
 abbrev pub taken_last : Lock → Rec → Did
 taken_last L r = does (with_end L) (next r Idle) takes_cell (kept L.cell)
 
 abbrev pub put_done : Lock → Rec → ℕ → Did
-put_done L r v = does (with_cell L (Full v)) (goes r WritePut) puts_cell v
+put_done L r v = does (with_cell L (Some v)) (goes r WritePut) puts_cell v
 
 abbrev pub stored : Lock → Rec → Did
 stored L r = does (with_exc L false) (next r Idle) stores_exc 0
@@ -192,11 +189,11 @@ entry_checks S L l i =
 unfoldable pub entry_refusal : Scripts → Lock → List Rec → ℕ → ℕ
 entry_refusal S L l i = lowest (entry_checks S L l i)
 
-unfoldable pub answer : Scripts → Lock → List Rec → ℕ → Out
+unfoldable pub answer : Scripts → Lock → List Rec → ℕ → Result Did ℕ
 answer S L l i =
     cond (eqb (entry_refusal S L l i) 0)
-    (Yes (act i L (here l i) (here l i).place (op_of S l i) (val_of S l i)))
-    (No (entry_refusal S L l i))
+    (Ok (act i L (here l i) (here l i).place (op_of S l i) (val_of S l i)))
+    (Err (entry_refusal S L l i))
 
 -- what an entry leaves: the lock, the records and one row
 pub record Left : Type 0 where
@@ -207,9 +204,9 @@ pub record Left : Type 0 where
 abbrev pub row_of : ℕ → Lock → ℕ → ℕ → ℕ → Row
 row_of i L access answer got = record { thread = i; access = access; answer = answer; got = got; exc = bit L.exc; rc = L.rc.0 }
 
-abbrev pub settle : Lock → List Rec → ℕ → Out → Left
-settle L l i (No k) = record { lock = L; recs = l; row = row_of i L no_access k 0 }
-settle L l i (Yes d) = record { lock = d.lock; recs = set l i d.rec; row = row_of i d.lock d.access 0 d.got }
+abbrev pub settle : Lock → List Rec → ℕ → Result Did ℕ → Left
+settle L l i (Err k) = record { lock = L; recs = l; row = row_of i L no_access k 0 }
+settle L l i (Ok d) = record { lock = d.lock; recs = set l i d.rec; row = row_of i d.lock d.access 0 d.got }
 
 unfoldable pub step : Scripts → Lock → List Rec → ℕ → Left
 step S L l i = settle L l i (answer S L l i)

@@ -10,7 +10,7 @@ use Rattle.machine.specs.Sound.{Sound, sound, WriteOp}
 use Rattle.machine.specs.Tidy.{Mode, Free, InRead, InWrite, mode_of, Tidy, tidy, price, cost, bound}
 use Rattle.machine.specs.declared.Lock.{Lock}
 use Rattle.machine.specs.declared.Rec.{Rec}
-use Rattle.machine.specs.declared.Mover.TheVariants.{Nobody}
+use Rattle.std.specs.Prelude.{None}
 
 abbrev pub SoundTested : Type 0
 SoundTested = (S : Scripts) (L : Lock) (l : List Rec) → (sound S L l ≡ true) ↔ Sound S L l
@@ -58,7 +58,7 @@ SectionsAreTidy =
 -- nothing dropped, no mover, not finished, and a proper rest of every script
 abbrev pub ProperIsTidy : Type 0
 ProperIsTidy =
-    (S : Scripts) (L : Lock) (l : List Rec) → L.reads.0 ≡ 0 → L.writes.0 ≡ 0 → L.mover ≡ Nobody → L.finished ≡ false
+    (S : Scripts) (L : Lock) (l : List Rec) → L.reads.0 ≡ 0 → L.writes.0 ≡ 0 → L.mover ≡ None → L.finished ≡ false
     → ((j : ℕ) → j < length l → Proper L.pred (S.len j) (S.op j) (S.val j) (mode_of (here l j).place) (here l j).at)
     → Tidy S L l
 

@@ -14,7 +14,7 @@ use Rattle.machine.specs.Tidy.{Tidy}
 use Rattle.machine.specs.Drain.{drain_refusal}
 use Rattle.machine.specs.declared.Lock.{Lock}
 use Rattle.machine.specs.declared.Rec.{Rec}
-use Rattle.machine.specs.declared.Mover.TheVariants.{By}
+use Rattle.std.specs.Prelude.{Some}
 use Rattle.machine.specs.declared.Place.TheVariants.{Idle, Writing}
 
 -- at an entry for thread i
@@ -22,10 +22,10 @@ pub data AtEntry (S : Scripts) (L : Lock) (l : List Rec) (i : ℕ) : ℕ → Typ
   for_no_thread : length l ≤ i → AtEntry S L l i no_thread
   for_script_finished : S.len i ≤ (here l i).at → AtEntry S L l i script_finished
   lock_finished : L.finished ≡ true → AtEntry S L l i lock_gone
-  moved_by_another : (t : ℕ) → L.mover ≡ By t → t ≢ i → AtEntry S L l i lock_gone
+  moved_by_another : (t : ℕ) → L.mover ≡ Some t → t ≢ i → AtEntry S L l i lock_gone
   for_does_not_fit : (Fits (here l i).place (op_of S l i) → ⊥) → AtEntry S L l i does_not_fit
   -- into_inner not yet begun, and another record not Idle
-  for_others_busy : op_of S l i ≡ into_inner → L.mover ≢ By i → (j : ℕ) → j ≢ i → j < length l → (here l j).place ≢ Idle → AtEntry S L l i others_busy
+  for_others_busy : op_of S l i ≡ into_inner → L.mover ≢ Some i → (j : ℕ) → j ≢ i → j < length l → (here l j).place ≢ Idle → AtEntry S L l i others_busy
   for_not_permitted : (here l i).place ≡ Writing → op_of S l i ≡ release_write → permits L.pred (val_of S l i) ≡ false → AtEntry S L l i not_permitted
 
 -- of what is lent, with so many records

@@ -2,13 +2,10 @@
 -- one thing changed. A lock or a record is made here and nowhere else.
 use Rattle.std.specs.Prelude.{ℕ, ◌+◌, Bool, true, false, eqb}
 use Rattle.atomic.specs.declared.Count.{Count}
-use Rattle.cell.specs.declared.value.Content.{Content}
-use Rattle.cell.specs.declared.value.Content.TheVariants.{Empty, Full}
+use Rattle.std.specs.Prelude.{None, Option, Some}
 use Rattle.cell.specs.declared.pred.Pred.{Pred}
 use Rattle.machine.specs.declared.Lock.{Lock}
 use Rattle.machine.specs.declared.Rec.{Rec}
-use Rattle.machine.specs.declared.Mover.{Mover}
-use Rattle.machine.specs.declared.Mover.TheVariants.{Nobody, By}
 use Rattle.machine.specs.declared.Place.{Place}
 use Rattle.machine.specs.declared.Place.TheVariants.{Idle, ReadTry, ReadCheck, ReadBack, Reading, WriteWait, WriteTake, Writing, WritePut}
 
@@ -40,19 +37,19 @@ abbrev pub is_at : Place → Rec → ℕ
 is_at p r = bit (is r.place p)
 
 -- 1 if there is a mover
-abbrev pub moving : Mover → ℕ
-moving Nobody = 0
-moving (By t) = 1
+abbrev pub moving : Option ℕ → ℕ
+moving None = 0
+moving (Some t) = 1
 
 -- the mover is no other thread than i
-abbrev pub may_go : Mover → ℕ → Bool
-may_go Nobody i = true
-may_go (By t) i = eqb t i
+abbrev pub may_go : Option ℕ → ℕ → Bool
+may_go None i = true
+may_go (Some t) i = eqb t i
 
 -- thread i has begun into_inner
-abbrev pub begun : Mover → ℕ → Bool
-begun Nobody i = false
-begun (By t) i = eqb t i
+abbrev pub begun : Option ℕ → ℕ → Bool
+begun None i = false
+begun (Some t) i = eqb t i
 
 -- ---- records
 abbrev pub rec_at : ℕ → Place → ℕ → ℕ → Rec
@@ -83,11 +80,11 @@ abbrev pub with_rc : Lock → ℕ → Lock
 with_rc L n =
     record { exc = L.exc; rc = count n; cell = L.cell; pred = L.pred; top = L.top; reads = L.reads; writes = L.writes; mover = L.mover; finished = L.finished }
 
-abbrev pub with_cell : Lock → Content → Lock
+abbrev pub with_cell : Lock → Option ℕ → Lock
 with_cell L c =
     record { exc = L.exc; rc = L.rc; cell = c; pred = L.pred; top = L.top; reads = L.reads; writes = L.writes; mover = L.mover; finished = L.finished }
 
-abbrev pub with_mover : Lock → Mover → Lock
+abbrev pub with_mover : Lock → Option ℕ → Lock
 with_mover L m =
     record { exc = L.exc; rc = L.rc; cell = L.cell; pred = L.pred; top = L.top; reads = L.reads; writes = L.writes; mover = m; finished = L.finished }
 
@@ -102,9 +99,9 @@ with_writes L n =
 -- finished: the cell is empty and there is no mover
 abbrev pub with_end : Lock → Lock
 with_end L =
-    record { exc = L.exc; rc = L.rc; cell = Empty; pred = L.pred; top = L.top; reads = L.reads; writes = L.writes; mover = Nobody; finished = true }
+    record { exc = L.exc; rc = L.rc; cell = None; pred = L.pred; top = L.top; reads = L.reads; writes = L.writes; mover = None; finished = true }
 
 -- the lock after setup, with the predicate q, the top m and the first value v
 abbrev pub unused : Pred → ℕ → ℕ → Lock
 unused q m v =
-    record { exc = false; rc = count 0; cell = Full v; pred = q; top = count m; reads = count 0; writes = count 0; mover = Nobody; finished = false }
+    record { exc = false; rc = count 0; cell = Some v; pred = q; top = count m; reads = count 0; writes = count 0; mover = None; finished = false }

@@ -1,10 +1,9 @@
-// The declared types of the lock machine: places, records, the lock, rows, and what is answered. What a step, a setup, a run and a
+// The declared types of the lock machine: places, records, the lock, rows, and refusals. What a step, a setup, a run and a
 // drain mean stands in specs/.
 #![tactic(auto)]
 
 use atomic::Count;
 use cell::pred::Pred;
-use cell::value::Content;
 
 // Where a thread stands inside its present operation.
 #[derive(Clone, Copy)]
@@ -32,28 +31,22 @@ pub struct Rec {
     pub taken: u64,
 }
 
-// The thread that has begun into_inner.
-#[derive(Clone, Copy)]
-pub enum Mover {
-    Nobody,
-    By(u64),
-}
-
 #[derive(Clone, Copy)]
 pub struct Lock {
     // The flag.
     pub exc: bool,
     // The count of readers.
     pub rc: Count,
-    // An empty cell has no field for a number, so that it keeps none.
-    pub cell: Content,
+    // What is in the cell.
+    pub cell: Option<u64>,
     pub pred: Pred,
     // The top of the count, M.
     pub top: Count,
     // Read and write handles that were dropped.
     pub reads: Count,
     pub writes: Count,
-    pub mover: Mover,
+    // The thread that has begun into_inner.
+    pub mover: Option<u64>,
     // into_inner has taken the value.
     pub finished: bool,
 }
@@ -65,14 +58,6 @@ pub struct Did {
     pub rec: Rec,
     pub access: u64,
     pub got: u64,
-}
-
-// What is answered to an entry of the schedule.
-#[derive(Clone, Copy)]
-pub enum Out {
-    // A refusal by its number.
-    No(u64),
-    Yes(Did),
 }
 
 // The words of a row.
@@ -95,11 +80,4 @@ pub struct Refusal {
     pub number: u64,
     pub thread: u64,
     pub place: u64,
-}
-
-// What setup answers.
-#[derive(Clone, Copy)]
-pub enum Start {
-    Made(Lock),
-    Refused(Refusal),
 }

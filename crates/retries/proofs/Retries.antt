@@ -16,8 +16,7 @@ use Rattle.machine.specs.Run.{run}
 use Rattle.retries.specs.Rows.{counted}
 use Rattle.machine.specs.Move.{Move, by_load_below, by_load_full, by_try_done, by_try_lost, by_check_clear, by_check_set, back, lend, release, by_exc_done, by_exc_lost, into_done, into_lost, by_wait_done, by_wait_more, take, take_last, put, store, drop_read, drop_write}
 use Rattle.machine.specs.declared.Did.{Did}
-use Rattle.machine.specs.declared.Out.{Out}
-use Rattle.machine.specs.declared.Out.TheVariants.{No, Yes}
+use Rattle.std.specs.Prelude.{Err, Ok, Result}
 use Rattle.machine.specs.declared.Lock.{Lock}
 use Rattle.machine.specs.declared.Rec.{Rec}
 use Rattle.machine.specs.declared.Row.{Row}
@@ -100,12 +99,12 @@ neither false = refl
 
 module _ (S : Scripts) (L : Lock) (l : List Rec) (i : ℕ) where
   -- for thread t, whose row this is or not
-  abbrev Paid : Out → ℕ → Type 0
+  abbrev Paid : Result Did ℕ → ℕ → Type 0
   Paid out t =
       let w = settle L l i out in
       bit (lost w.row && by t w.row) + stale w.lock (here w.recs t) ≤ bit (changes w.row && not (by t w.row)) + stale L (here l t)
 
-  accepts : Passed S L l i → (d : Did) → MoveOf S L l i d → (t : ℕ) → Paid (Yes d) t
+  accepts : Passed S L l i → (d : Did) → MoveOf S L l i d → (t : ℕ) → Paid (Ok d) t
   accepts p d mv t = go t (eqb i t) refl
     where
       Each : ℕ → Bool → Type 0
@@ -128,7 +127,7 @@ module _ (S : Scripts) (L : Lock) (l : List Rec) (i : ℕ) where
   paid t = answered (λ out. Paid out t) S L l i (λ k. omega arith) (λ p d mv. accepts p d mv t)
 
   -- only a thread that the records have makes an access
-  below : (test : Row → Bool) → ((k : ℕ) → test (settle L l i (No k)).row ≡ false) → (rows : List Row) → Below (length l) test rows
+  below : (test : Row → Bool) → ((k : ℕ) → test (settle L l i (Err k)).row ≡ false) → (rows : List Row) → Below (length l) test rows
       → Below (length l) test ((step S L l i).row ∷ rows)
   unfolding step
   below test not_refused rows b =
@@ -146,7 +145,7 @@ lost_on_the_way S L l (i ∷ more) t =
     let x = step S L l i in
     omega (arith, paid S L l i t, lost_on_the_way S x.lock x.recs more t)
 
-all_below : (test : Row → Bool) (S : Scripts) → ((L : Lock) (l : List Rec) (i k : ℕ) → test (settle L l i (No k)).row ≡ false)
+all_below : (test : Row → Bool) (S : Scripts) → ((L : Lock) (l : List Rec) (i k : ℕ) → test (settle L l i (Err k)).row ≡ false)
     → (L : Lock) (l : List Rec) (schedule : List ℕ) → Below (length l) test (run S L l schedule).rows
 unfolding run
 all_below test S not_refused L l [] = none

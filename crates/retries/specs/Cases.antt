@@ -7,12 +7,12 @@ use Rattle.machine.specs.Setup.{fresh, setup}
 use Rattle.machine.specs.Run.{run}
 use Rattle.retries.specs.Rows.{counted}
 use Rattle.machine.specs.declared.Row.{Row}
-use Rattle.machine.specs.declared.Start.TheVariants.{Made}
+use Rattle.std.specs.Prelude.{Ok}
 use Rattle.retries.specs.Retries.{lost, changes, lost_by, changed_by, changed_by_others, most_lost}
 
 -- a setup with these scripts is not refused: any value is permitted, the first is 5, M is 3
 abbrev Begins : Lent → Type 0
-Begins s = setup Any 3 5 s (length s.lens) ≡ Made (unused Any 3 5)
+Begins s = setup Any 3 5 s (length s.lens) ≡ Ok (unused Any 3 5)
 
 -- the rows of a schedule behind it
 abbrev rows_of : Lent → List ℕ → List Row

@@ -12,8 +12,8 @@ use lib.Dec.{eqb, ltb, leb}
 use lib.ListN.{length, get_or, take, replicate, length-append}
 use Rattle.cell.specs.Pred.{permits, good, of_kind}
 use Rattle.cell.specs.declared.pred.Pred.TheVariants.{Parity}
-use Rattle.cell.specs.declared.pred.Named.{Named}
-use Rattle.cell.specs.declared.pred.Named.TheVariants.{Known, Unknown}
+use Rattle.std.specs.Prelude.{None, Option, Some}
+use Rattle.cell.specs.declared.pred.Pred.{Pred}
 use Rattle.machine.specs.Names.{thread_count, top_is_zero, bad_predicate, first_value}
 use Rattle.machine.specs.Words.{unused}
 use Rattle.machine.specs.Lists.{Lent, scripts_of}
@@ -92,9 +92,9 @@ module _ (ls : List Line) (s : Scenario) where
   refused_3 false true permitted e = omega (arith, e)
   refused_3 false false permitted e = omega (arith, e)
 
-  so_known : (named : Named) → asked (with_pred s (pred_of named)) ≡ 0 → named ≡ Known (pred_of named)
-  so_known (Known q) none = refl
-  so_known Unknown none =
+  so_known : (named : Option Pred) → asked (with_pred s (pred_of named)) ≡ 0 → named ≡ Some (pred_of named)
+  so_known (Some q) none = refl
+  so_known None none =
       absurd (refused_3 (eqb s.threads 0 || ltb 16 s.threads) (eqb s.top 0) (permits (Parity 2) s.first) (sym (of_pred s (Parity 2)) ∙ none))
 
   so_pred : (kind a b : ℕ) → So ls s AtPred → asked (with_pred s (pred_of (of_kind kind a b))) ≡ 0

@@ -2,7 +2,7 @@
 -- is the entries of the run lines, each in their order. The rows that a file prints are those of that lock, those scripts and that schedule.
 use Rattle.std.specs.Prelude.{ℕ, zero, suc, ◌-◌, ◌<◌, ◌≤◌, ◌≡◌, cond, List, [], ◌∷◌, ◌++◌, map, eqb, take, replicate}
 use Rattle.cell.specs.Pred.{of_kind}
-use Rattle.cell.specs.declared.pred.Named.TheVariants.{Known}
+use Rattle.std.specs.Prelude.{Some}
 use Rattle.machine.specs.ListLaws.{Op, lent_for}
 use Rattle.machine.specs.Lists.{scripts_of}
 use Rattle.machine.specs.Run.{run}
@@ -63,7 +63,7 @@ pub record NamedBy (ls : List Line) (s : Scenario) : Type 0 where
   pub b : ℕ
   pub more : List Line
   pub lines : ls ≡ Header ∷ Lock s.top s.first s.threads ∷ PredLine kind a b ∷ more
-  pub pred : of_kind kind a b ≡ Known s.pred
+  pub pred : of_kind kind a b ≡ Some s.pred
   pub in_order : InOrder s.threads s.thread s.stage more
   pub scripts : s.lent ≡ lent_for (scripts_from 0 s.threads more)
   pub schedule : s.schedule ≡ entries_of more

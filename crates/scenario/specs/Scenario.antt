@@ -3,8 +3,7 @@ use Rattle.std.specs.Prelude.{ℕ, ◌+◌, List, [], ◌∷◌, ◌++◌, get_o
 use Rattle.cell.specs.Pred.{of_kind}
 use Rattle.cell.specs.declared.pred.Pred.{Pred}
 use Rattle.cell.specs.declared.pred.Pred.TheVariants.{Any, Parity}
-use Rattle.cell.specs.declared.pred.Named.{Named}
-use Rattle.cell.specs.declared.pred.Named.TheVariants.{Known, Unknown}
+use Rattle.std.specs.Prelude.{None, Option, Some}
 use Rattle.machine.specs.Lists.{Lent, lists}
 use Rattle.scenario_lines.specs.declared.Line.{Line}
 use Rattle.scenario_lines.specs.declared.Line.TheVariants.{Broken, Header, BadNumber, Lock, Pred as PredLine, Op, Run, NoKind}
@@ -57,9 +56,9 @@ with_lock s top first threads =
     }
 
 -- a kind above 2 is refused as a bad parameter is
-abbrev pub pred_of : Named → Pred
-pred_of (Known q) = q
-pred_of Unknown = Parity 2
+abbrev pub pred_of : Option Pred → Pred
+pred_of (Some q) = q
+pred_of None = Parity 2
 
 -- no thread has an operation yet
 abbrev pub with_pred : Scenario → Pred → Scenario

@@ -7,15 +7,16 @@ use Rattle.machine.specs.Words.{unused}
 use Rattle.machine.specs.Refusals.{lowest}
 use Rattle.machine.specs.Lists.{Lent, lists, beside}
 use Rattle.machine.specs.Setup.{setup_refusal, setup}
-use Rattle.machine.specs.declared.Start.{Start}
-use Rattle.machine.specs.declared.Start.TheVariants.{Made, Refused}
+use Rattle.std.specs.Prelude.{Err, Ok, Result}
+use Rattle.machine.specs.declared.Refusal.{Refusal}
+use Rattle.machine.specs.declared.Lock.{Lock}
 
 -- 0 for none
-abbrev pub start_no : Start → ℕ
-start_no (Made lock) = 0
-start_no (Refused why) = why.number
+abbrev pub start_no : Result Lock Refusal → ℕ
+start_no (Ok lock) = 0
+start_no (Err why) = why.number
 
-by_number : (b : Bool) (q : Pred) (m v : ℕ) (s : Lent) (k : ℕ) → eqb k 0 ≡ b → start_no (cond b (Made (unused q m v)) (Refused (beside s k))) ≡ k
+by_number : (b : Bool) (q : Pred) (m v : ℕ) (s : Lent) (k : ℕ) → eqb k 0 ≡ b → start_no (cond b (Ok (unused q m v)) (Err (beside s k))) ≡ k
 unfolding beside
 by_number true q m v s k e = sym (eqb-true k 0 e)
 by_number false q m v s k e = refl

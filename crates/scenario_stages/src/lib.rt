@@ -13,12 +13,12 @@ ghost use Rattle.scenario_stages.specs.Kept.{cleared, lens_with, ops_with, vals_
 
 use atomic::Count;
 use cell::pred;
-use cell::pred::{Named, Pred};
+use cell::pred::Pred;
 use lock::setup;
 use lock_words::names::{
     LONGEST_SCRIPT, MOST_THREADS, NONE, SCRIPT_TOO_LONG, THREAD_COUNT, WRONG_CODE,
 };
-use machine::{Place, Start};
+use machine::{Lock, Place, Refusal};
 use scenario::Stage;
 use scenario_lines::Line;
 
@@ -237,8 +237,8 @@ fn ask(pred: Pred, top: u64, first: u64, none: &[u64], threads: u64) -> u64
     );
     let start = begun.start;
     match start {
-        Start::Made(_) => NONE,
-        Start::Refused(why) => why.number,
+        Ok(_) => NONE,
+        Err(why) => why.number,
     }
 }
 
@@ -295,12 +295,12 @@ fn misses(stage: Stage) -> bool
 }
 
 // A kind above 2 is refused as a bad parameter is.
-fn pred_of(named: Named) -> Pred
+fn pred_of(named: Option<Pred>) -> Pred
     ensures { result ≡ pred_of named }
 {
     match named {
-        Named::Known(q) => q,
-        Named::Unknown => Pred::Parity(2),
+        Some(q) => q,
+        None => Pred::Parity(2),
     }
 }
 

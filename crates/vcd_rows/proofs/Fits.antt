@@ -16,8 +16,8 @@ use Rattle.machine.specs.Setup.{fresh}
 use Rattle.machine.specs.Run.{run}
 use Rattle.machine.specs.declared.Lock.{Lock}
 use Rattle.machine.specs.declared.Rec.{Rec}
-use Rattle.machine.specs.declared.Out.{Out}
-use Rattle.machine.specs.declared.Out.TheVariants.{No as Denied, Yes}
+use Rattle.std.specs.Prelude.{Err, Ok, Result}
+use Rattle.machine.specs.declared.Did.{Did}
 use Rattle.machine.proofs.Accesses.{others_stay}
 use Rattle.machine.proofs.Runs.{setup_sound, step_keeps_sound}
 use Rattle.machine.proofs.Setup.{admits}
@@ -52,9 +52,9 @@ shows : (S : Scripts) (L : Lock) (l : List Rec) (i : ℕ) → Shows (step S L l 
 unfolding step
 shows S L l i = settled (answer S L l i)
   where
-    settled : (out : Out) → Shows (settle L l i out)
-    settled (Denied k) = (refl, refl)
-    settled (Yes d) = (refl, refl)
+    settled : (out : Result Did ℕ) → Shows (settle L l i out)
+    settled (Err k) = (refl, refl)
+    settled (Ok d) = (refl, refl)
 
 run_fits : (S : Scripts) (schedule : List ℕ) (L : Lock) (l : List Rec) → Sound S L l → L.top.0 < 2 ^ 64 → Fit (run S L l schedule).rows
 unfolding run Fit

@@ -2,15 +2,13 @@
 -- to a state that is not refused; and the numbers of each.
 use Rattle.std.specs.Prelude.{ℕ, ◌-◌, ◌^◌, ◌≡◌, Bool, true, false, List, [], ◌∷◌, length}
 use Rattle.cell.specs.declared.pred.Pred.TheVariants.{Any, Either}
-use Rattle.cell.specs.declared.value.Content.{Content}
-use Rattle.cell.specs.declared.value.Content.TheVariants.{Empty, Full}
+use Rattle.std.specs.Prelude.{None, Option, Some}
 use Rattle.machine.specs.Names.{script_too_long, wrong_lengths, wrong_code, unsound, no_thread, script_finished, lock_gone, does_not_fit, others_busy, not_permitted}
 use Rattle.machine.specs.Words.{unused}
 use Rattle.machine.specs.Lists.{Lent, lists, scripts_of}
 use Rattle.machine.specs.Setup.{fresh}
 use Rattle.machine.specs.Run.{run}
 use Rattle.machine.specs.Numbers.{lock_of, rec_of, alone}
-use Rattle.machine.specs.declared.Mover.TheVariants.{Nobody}
 use Rattle.machine.specs.declared.Place.{Place}
 use Rattle.machine.specs.declared.Place.TheVariants.{Idle, ReadTry, ReadCheck, WriteWait, WriteTake}
 use Rattle.why.specs.Told.{told_lent, numbers_of}
@@ -145,26 +143,26 @@ StepCases =
 -- ---- states that are lent
 -- a lone reader before its first access, the count all dropped handles: full at the highest top, or one less
 abbrev filled : ℕ → Told
-filled rc = told_lent (alone (1 ∷ [])) (lock_of Any (2 ^ 64 - 1) false rc (Full 5) rc 0 Nobody false) (rec_of 0 Idle 0 0 ∷ []) 0
+filled rc = told_lent (alone (1 ∷ [])) (lock_of Any (2 ^ 64 - 1) false rc (Some 5) rc 0 None false) (rec_of 0 Idle 0 0 ∷ []) 0
 
 -- a lone reader that has counted itself, and a flag that is up by a dropped write, which leaves the cell empty, or down
-abbrev counted : Bool → Content → ℕ → Told
-counted exc cell writes = told_lent (alone (1 ∷ [])) (lock_of Any 3 exc 1 cell 0 writes Nobody false) (rec_of 0 ReadCheck 0 0 ∷ []) 0
+abbrev counted : Bool → Option ℕ → ℕ → Told
+counted exc cell writes = told_lent (alone (1 ∷ [])) (lock_of Any 3 exc 1 cell 0 writes None false) (rec_of 0 ReadCheck 0 0 ∷ []) 0
 
 -- a lone writer that waits, or may take the value: so many dropped reads
 abbrev waiting : Place → ℕ → Told
-waiting p reads = told_lent (alone (4 ∷ [])) (lock_of Any 3 true reads (Full 5) reads 0 Nobody false) (rec_of 0 p 0 0 ∷ []) 0
+waiting p reads = told_lent (alone (4 ∷ [])) (lock_of Any 3 true reads (Some 5) reads 0 None false) (rec_of 0 p 0 0 ∷ []) 0
 
 -- a lone reader that has seen 1, and another count
 abbrev seeing : ℕ → Told
-seeing rc = told_lent (alone (1 ∷ [])) (lock_of Any 3 false rc (Full 5) rc 0 Nobody false) (rec_of 0 ReadTry 1 0 ∷ []) 0
+seeing rc = told_lent (alone (1 ∷ [])) (lock_of Any 3 false rc (Some 5) rc 0 None false) (rec_of 0 ReadTry 1 0 ∷ []) 0
 
 abbrev pub LentCases : Type 0
 LentCases =
     (filled (2 ^ 64 - 1) ≡ Given CountFull)
     × (filled (2 ^ 64 - 2) ≡ Given NotWaiting)
-    × (counted true Empty 1 ≡ Given (Flag Dropped))
-    × (counted false (Full 5) 0 ≡ Given NotWaiting)
+    × (counted true None 1 ≡ Given (Flag Dropped))
+    × (counted false (Some 5) 0 ≡ Given NotWaiting)
     × (waiting WriteWait 1 ≡ Given (Readers Dropped))
     × (waiting WriteWait 0 ≡ Given NotWaiting)
     × (waiting WriteTake 0 ≡ Given NotWaiting)
