@@ -17,7 +17,14 @@ fn is_alone(len: u64, o: u64, r: Rec, busy: u64) -> bool
 }
 
 // A mover is a thread that there is, and the clauses on its record hold. `busy` is how many of the records are not Idle.
-pub fn holds(lens: &[u64], ops: &[u64], by: Option<u64>, recs: [Rec; 16], count: u64, busy: u64) -> bool
+pub fn holds(
+    lens: &[u64],
+    ops: &[u64],
+    by: Option<u64>,
+    recs: [Rec; 16],
+    count: u64,
+    busy: u64,
+) -> bool
     ensures { result ≡ mover_at (unvalued lens.now ops.now) (take count recs) busy by }
 {
     match by {

@@ -3,6 +3,7 @@ use Rattle.std.specs.Prelude.{ℕ, zero, suc, ◌+◌, Bool, ◌||◌, ◌&&◌,
 use Rattle.machine.specs.Names.{release_write, into_inner, script_too_long, wrong_lengths, wrong_code, longest_script}
 use Rattle.machine.specs.Refusals.{Check, gives}
 use Rattle.machine.specs.Step.{Scripts}
+use Rattle.machine.specs.declared.Lists.{Lists}
 use Rattle.machine.specs.declared.Refusal.{Refusal}
 
 -- a length for each thread; the operations of all threads, one script after the other; their values in the same order
@@ -13,6 +14,10 @@ pub record Lent : Type 0 where
 
 abbrev pub lists : List ℕ → List ℕ → List ℕ → Lent
 lists lens ops vals = record { lens = lens; ops = ops; vals = vals }
+
+-- the lists, as a call is lent them
+abbrev pub lent : Lists → Lent
+lent l = lists l.lens.now l.ops.now l.vals.now
 
 unfoldable pub total : List ℕ → ℕ
 total [] = 0

@@ -60,6 +60,15 @@ pub struct Did {
     pub got: u64,
 }
 
+// The scripts as they are lent: a length for each thread; the operations of all threads, one script after the other; their values in the
+// same order.
+#[derive(Clone, Copy)]
+pub struct Lists<'a> {
+    pub lens: &'a [u64],
+    pub ops: &'a [u64],
+    pub vals: &'a [u64],
+}
+
 // The words of a row.
 pub const ROW_WORDS: usize = 6;
 
