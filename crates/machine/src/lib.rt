@@ -6,7 +6,7 @@ use atomic::Count;
 use cell::pred::Pred;
 
 // Where a thread stands inside its present operation.
-#[derive(Clone, Copy)]
+#[derive(Clone, Copy, PartialEq, Eq)]
 pub enum Place {
     Idle,
     ReadTry,
