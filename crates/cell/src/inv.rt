@@ -33,22 +33,19 @@ pub fn new(v: u64, pred: Pred) -> Result<InvCell, Refusal>
 pub fn set(c: InvCell, v: u64) -> Did
     ensures { result ≡ on_inv c (set v) }
 {
-    let d = replace(c, v);
-    let cell = d.cell;
-    let answer = d.answer;
+    let did = replace(c, v);
     Did {
-        cell,
-        answer: without_value(answer),
+        answer: without_value(did.answer),
+        ..did
     }
 }
 
 pub fn replace(c: InvCell, v: u64) -> Did
     ensures { result ≡ on_inv c (replace v) }
 {
-    let p = c.pred;
-    if pred::permits(p, v) {
+    if pred::permits(c.pred, v) {
         Did {
-            cell: InvCell { pred: p, value: v },
+            cell: InvCell { value: v, ..c },
             answer: Answer::Value(c.value),
         }
     } else {
@@ -76,7 +73,6 @@ fn without_value(a: Answer) -> Answer
 {
     match a {
         Answer::Value(_) => Answer::Stored,
-        Answer::Stored => Answer::Stored,
-        Answer::Refused(why) => Answer::Refused(why),
+        other => other,
     }
 }

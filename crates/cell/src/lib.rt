@@ -31,13 +31,15 @@ pub enum Answer {
 }
 
 // The number that the table of refusals has for it.
-pub fn number(why: Refusal) -> u64
-    ensures { result ≡ number_of why }
-{
-    match why {
-        Refusal::Foreign => 21,
-        Refusal::IsFull => 23,
-        Refusal::IsEmpty => 24,
-        Refusal::NotPermitted => 25,
+impl From<Refusal> for u64 {
+    ghost from_gives = { λ why number. number ≡ number_of why };
+
+    fn from(why: Refusal) -> u64 {
+        match why {
+            Refusal::Foreign => 21,
+            Refusal::IsFull => 23,
+            Refusal::IsEmpty => 24,
+            Refusal::NotPermitted => 25,
+        }
     }
 }

@@ -13,6 +13,7 @@ pub enum Pred {
     Parity(u64),
 }
 
+#[tactic(auto, unfolding(crate::specs::Pred::permits))]
 pub fn permits(p: Pred, v: u64) -> bool
     ensures { result ≡ permits p v }
 {
@@ -23,27 +24,25 @@ pub fn permits(p: Pred, v: u64) -> bool
     }
 }
 
+#[tactic(auto, unfolding(crate::specs::Pred::good))]
 pub fn is_good(p: Pred) -> bool
     ensures { result ≡ good p }
 {
     match p {
-        Pred::Any => true,
-        Pred::Either(_, _) => true,
+        Pred::Any | Pred::Either(_, _) => true,
         Pred::Parity(a) => a <= 1,
     }
 }
 
 // What a file's kind and two parameters name, if a kind has that number. Parameters that the kind has no use for are ignored.
+#[tactic(auto, unfolding(crate::specs::Pred::of_kind))]
 pub fn of_kind(kind: u64, a: u64, b: u64) -> Option<Pred>
     ensures { result ≡ of_kind kind a b }
 {
-    if kind == 0 {
-        Some(Pred::Any)
-    } else if kind == 1 {
-        Some(Pred::Either(a, b))
-    } else if kind == 2 {
-        Some(Pred::Parity(a))
-    } else {
-        None
+    match kind {
+        0 => Some(Pred::Any),
+        1 => Some(Pred::Either(a, b)),
+        2 => Some(Pred::Parity(a)),
+        _ => None,
     }
 }

@@ -51,17 +51,13 @@ pub fn borrow(c: CellId, p: Perm) -> Did
 pub fn kept(c: Option<u64>) -> u64
     ensures { result ≡ kept c }
 {
-    match c {
-        None => 0,
-        Some(v) => v,
-    }
+    c.unwrap_or(0)
 }
 
 fn access(c: CellId, p: Perm, op: Op) -> Did
     ensures { result ≡ on_cell c p (asks op) }
 {
-    let id = p.id;
-    if c.0 == id.0 {
+    if c.0 == p.id.0 {
         act(p, op)
     } else {
         refuse(p, Refusal::Foreign)
@@ -71,39 +67,20 @@ fn access(c: CellId, p: Perm, op: Op) -> Did
 fn act(p: Perm, op: Op) -> Did
     ensures { result ≡ did p (asks op p.content) }
 {
-    let was = p.content;
-    match was {
-        None => on_empty(p, op),
-        Some(v) => on_full(p, op, v),
-    }
-}
-
-fn on_empty(p: Perm, op: Op) -> Did
-    ensures { result ≡ did p (asks op None) }
-{
-    match op {
-        Op::Put(v) => leave(p, Some(v), Answer::Stored),
-        Op::Take => leave(p, None, Answer::Refused(Refusal::IsEmpty)),
-        Op::Borrow => leave(p, None, Answer::Refused(Refusal::IsEmpty)),
-    }
-}
-
-fn on_full(p: Perm, op: Op, was: u64) -> Did
-    ensures { result ≡ did p (asks op (Some was)) }
-{
-    match op {
-        Op::Put(_) => leave(p, Some(was), Answer::Refused(Refusal::IsFull)),
-        Op::Take => leave(p, None, Answer::Value(was)),
-        Op::Borrow => leave(p, Some(was), Answer::Value(was)),
+    match (p.content, op) {
+        (None, Op::Put(v)) => leave(p, Some(v), Answer::Stored),
+        (None, Op::Take | Op::Borrow) => refuse(p, Refusal::IsEmpty),
+        (Some(_), Op::Put(_)) => refuse(p, Refusal::IsFull),
+        (Some(was), Op::Take) => leave(p, None, Answer::Value(was)),
+        (Some(was), Op::Borrow) => leave(p, Some(was), Answer::Value(was)),
     }
 }
 
 fn leave(p: Perm, content: Option<u64>, answer: Answer) -> Did
     ensures { result ≡ did p (record { leaves = content; answers = answer }) }
 {
-    let id = p.id;
     Did {
-        perm: Perm { id, content },
+        perm: Perm { content, ..p },
         answer,
     }
 }
