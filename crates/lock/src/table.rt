@@ -1,6 +1,6 @@
 // The table of places and accesses: what an accepted entry does, and each outcome by the one access that it makes. Of a load and a
 // borrow only the answer is used; every other access's count, flag or cell goes into the lock.
-ghost use Rattle.std.specs.Prelude.{ℕ, ◌+◌, ◌<◌, ◌^◌, ◌≡◌};
+ghost use Rattle.std.specs.Prelude.{ℕ, ◌+◌, ◌<◌, ◌^◌, ◌≡◌, None};
 ghost use Rattle.machine.specs.Words.{next};
 ghost use Rattle.machine.specs.Step.{does, load_rc, try_rc, load_exc, back_done, lent, released, try_exc, wait_rc, taken, taken_last, put_done, stored, read_dropped, write_dropped, act};
 ghost use Rattle.lock.specs.Room.{Room};
@@ -262,7 +262,7 @@ fn take_last(lock: Lock, rec: Rec) -> Did
 }
 
 fn put(lock: Lock, rec: Rec, v: u64) -> Did
-    requires { lock.cell ≡ Empty }
+    requires { lock.cell ≡ None }
     ensures { result ≡ put_done lock rec v }
 {
     let cell = lock.cell;

@@ -2,22 +2,22 @@
 use Rattle.lock.specs.Entered.{entered_of}
 use Rattle.lock.proofs.entered.enter.Goals as goal
 
-pub returns-in-No : goal.returns-in-No
+pub returns-in-Err : goal.returns-in-Err
 unfolding entered_of
-returns-in-No c =
+returns-in-Err c =
     simp (
       ← c.busy_of.ensures,
       ← c.turn-out.ensures,
-      c.in-No.is,
+      c.in-Err.is,
     )
     c.left_alone.ensures
 
-pub returns-in-Yes : goal.returns-in-Yes
+pub returns-in-Ok : goal.returns-in-Ok
 unfolding entered_of
-returns-in-Yes c =
+returns-in-Ok c =
     simp (
       ← c.busy_of.ensures,
       ← c.turn-out.ensures,
-      c.in-Yes.is,
+      c.in-Ok.is,
     )
     c.changed.ensures
