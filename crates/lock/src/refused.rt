@@ -9,12 +9,7 @@ use lock_words::names::{MOST_THREADS, NONE, UNSOUND};
 use machine::{Lists, Lock, Rec, Refusal};
 
 // 5, 6 and 7 are the lists'. 10 is a thread count of 0 or above 16, or a state that is not sound.
-pub(crate) fn refused(
-    lists: Lists,
-    lock: Lock,
-    recs: [Rec; 16],
-    count: u64,
-) -> Refusal
+pub(crate) fn refused(lists: Lists, lock: Lock, recs: [Rec; 16], count: u64) -> Refusal
     ensures { let s = lent lists.entry in result ≡ beside s (run_refusal_of s count lock (take count recs)) }
 {
     let why = lock_scripts::refused(lists, count);

@@ -8,7 +8,7 @@ ghost use Rattle.lock.specs.Run.{ran_of, ready_of, Ready, rest_of, rest_trace};
 
 use super::{entered, refused, trace};
 use lock_words::names::{NO_ACCESS, NO_THREAD, NONE};
-use machine::{Lists, Lock, ROW_WORDS, Rec, Refusal};
+use machine::{Lists, Lock, Place, ROW_WORDS, Rec, Refusal};
 
 // What a run returns: the refusal, whose number is 0 for none; n; the number of rows with answer 0; the lock and the records as they
 // are left.
@@ -45,7 +45,7 @@ pub fn run(
         };
     }
     let room = (trace.len() / ROW_WORDS) as u64;
-    let n = lock_words::smaller(budget, lock_words::smaller(schedule.len() as u64, room));
+    let n = budget.min((schedule.len() as u64).min(room));
     run_ready(lists, lock, recs, schedule, n, trace)
 }
 
@@ -108,24 +108,19 @@ fn run_ready(
     let mut rs = recs;
     let mut busy = busy_among(recs, count);
     let mut done = 0;
-    let mut k = 0;
-    while k < n {
+    for k in 0..n {
         let t = schedule[k as usize];
         let mut row = entered::row_of(l, t, NO_ACCESS, NO_THREAD, 0);
         if t < count {
             let i = t as usize;
-            let r = rs[i];
-            let e = entered::enter_at(l, r, t, lists.lens[i], busy, starts[i], lists.ops, lists.vals);
-            let after = e.lock;
-            let rec = e.rec;
-            l = after;
-            rs[i] = rec;
+            let e = entered::enter_at(lists, l, rs[i], t, busy, starts[i]);
+            l = e.lock;
+            rs[i] = e.rec;
             busy = e.busy;
             row = e.row;
         }
         trace::put_row(trace, ROW_WORDS * k as usize, row);
-        done += one_if_zero(row.answer);
-        k += 1;
+        done += u64::from(row.answer == NONE);
     }
     RunReturn {
         refusal: none(),
@@ -143,35 +138,23 @@ fn starts_of(lens: &[u64], most: u64) -> [u64; 16]
 {
     let mut starts = [0; 16];
     let mut sum = 0;
-    let mut t = 0;
-    while t < lens.len() {
+    for (t, len) in lens.iter().enumerate() {
         starts[t] = sum;
-        sum += lock_words::smaller(lens[t], most - sum);
-        t += 1;
+        sum += (most - sum).min(*len);
     }
     starts
 }
 
 // How many of the first `count` records are not Idle.
+#[tactic(auto, using(crate::proofs::Busy::counted))]
 pub(crate) fn busy_among(recs: [Rec; 16], count: u64) -> u64
     requires { count ≤ 16 }
     ensures { result ≡ busy (take count recs) }
 {
-    let mut busy = 0;
-    let mut k = 0;
-    while k < count {
-        let r = recs[k as usize];
-        busy += entered::busy_of(r);
-        k += 1;
-    }
-    busy
-}
-
-fn one_if_zero(n: u64) -> u64
-    ensures value { result ≡ bit (eqb n 0) }
-    ensures upper_bound { result ≤ 1 }
-{
-    if n == NONE { 1 } else { 0 }
+    recs[..count as usize]
+        .iter()
+        .filter(|rec| rec.place != Place::Idle)
+        .count() as u64
 }
 
 fn none() -> Refusal

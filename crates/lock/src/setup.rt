@@ -22,14 +22,7 @@ pub struct Begun {
 }
 
 // The records are the first `count` of the array; the others stay as they are.
-pub fn setup(
-    pred: Pred,
-    top: Count,
-    first: u64,
-    lists: Lists,
-    recs: [Rec; 16],
-    count: u64,
-) -> Begun
+pub fn setup(pred: Pred, top: Count, first: u64, lists: Lists, recs: [Rec; 16], count: u64) -> Begun
     ensures { result ≡ begun_of pred top.0 first (lent lists.entry) count recs }
 {
     let why = refused(pred, top, first, lists, count);
@@ -47,13 +40,7 @@ pub fn setup(
 }
 
 // 1 to 4 are setup's own, 5 to 7 the lists'.
-fn refused(
-    pred: Pred,
-    top: Count,
-    first: u64,
-    lists: Lists,
-    count: u64,
-) -> Refusal
+fn refused(pred: Pred, top: Count, first: u64, lists: Lists, count: u64) -> Refusal
     ensures { let s = lent lists.entry in result ≡ beside s (setup_refusal pred top.0 first s count) }
 {
     let k = own_refusal(pred, top, first, lists.lens.len() as u64);
@@ -69,6 +56,7 @@ fn refused(
 }
 
 // The number of the first of 1 to 4 that applies.
+#[tactic(auto, unfolding(machine::specs::Refusals::lowest))]
 fn own_refusal(pred: Pred, top: Count, first: u64, threads: u64) -> u64
     ensures { result ≡ lowest (own_checks pred top.0 first threads) }
 {
@@ -93,10 +81,6 @@ fn begin(recs: [Rec; 16], n: u64) -> [Rec; 16]
     ensures { result ≡ put_back n recs (fresh n) }
 {
     let mut rs = recs;
-    let mut k = 0;
-    while k < n {
-        rs[k as usize] = lock_words::plain(0, Place::Idle);
-        k += 1;
-    }
+    rs[..n as usize].fill(lock_words::plain(0, Place::Idle));
     rs
 }

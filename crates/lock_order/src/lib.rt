@@ -39,13 +39,7 @@ struct Going {
 
 // The records are the first `count` of the array. The entries stand at the start of `out`, and words behind them stay. Refused as drain
 // is, then by 41 where they have no room. They are counted first, by drain itself, so that a refusal has written nothing.
-pub fn drain_order(
-    lists: Lists,
-    lock: Lock,
-    recs: [Rec; 16],
-    count: u64,
-    out: &mut [u64],
-) -> Answer
+pub fn drain_order(lists: Lists, lock: Lock, recs: [Rec; 16], count: u64, out: &mut [u64]) -> Answer
     ensures value { result ≡ answer_of (order_of (lent lists.entry) count lock recs out.old) }
     ensures out_after { out.new ≡ (order_of (lent lists.entry) count lock recs out.old).out }
 {
@@ -78,14 +72,7 @@ pub fn drain_order(
 }
 
 // The three parts of the order, where nothing is refused; n is as much as any thread needs.
-fn write(
-    lists: Lists,
-    lock: Lock,
-    recs: [Rec; 16],
-    count: u64,
-    n: u64,
-    out: &mut [u64],
-)
+fn write(lists: Lists, lock: Lock, recs: [Rec; 16], count: u64, n: u64, out: &mut [u64])
     requires recs_value { run_refusal_of (lent lists) count lock (take count recs) ≡ 0 }
     requires recs_in_bounds { length (within n (scripts_of (lent lists)) lock (take count recs)).made ≤ length out.old }
     ensures { out.new ≡ sets out.old 0 (within n (scripts_of (lent lists.entry)) lock (take count recs)).made }
@@ -101,14 +88,7 @@ fn write(
 }
 
 // One part: each thread in its turn steps until it stops, at most `fuel` times.
-fn sweep(
-    stop: Stop,
-    fuel: u64,
-    from: Going,
-    lists: Lists,
-    count: u64,
-    out: &mut [u64],
-) -> Going
+fn sweep(stop: Stop, fuel: u64, from: Going, lists: Lists, count: u64, out: &mut [u64]) -> Going
     requires able { Able (lent lists) count from }
     requires recs_in_bounds { let S = scripts_of (lent lists) in from.used + length (sweep (stop_of stop S) S fuel 0 count from.lock (take count from.recs)).made ≤ length out.old }
     ensures able_2 { Able (lent lists.entry) count result }
