@@ -60,6 +60,12 @@ module _ (s : Lent) (count : ℕ) (L : Lock) (l : List Rec) where
     unfolding drain_refusal_of beside
     untidy_refused e = applies s (run_checks_of s count L l) pass untidy (not (tidy (scripts_of s) L l)) (ap not e) (λ z. absurd (omega arith)) refl
 
+-- where run is not refused there are as many records as threads, 16 at most
+pub few_records : (s : Lent) (count : ℕ) (L : Lock) (recs : List Rec) → ◌≡◌ {A = Told} (Ok tt) (answered s (run_refusal_of s count L (take count recs))) → count ≤ 16
+few_records s count L recs none =
+    let (same, ready) = none_refused s count L recs (none_told s (run_refusal_of s count L (take count recs)) none) in
+    omega (arith, same, ready.threads)
+
 -- ---- the three parts
 pub sweep_length : (stop : ℕ → Rec → Bool) (S : Scripts) (f k c : ℕ) (L : Lock) (l : List Rec) → length (sweep stop S f k c L l).recs ≡ length l
 unfolding sweep

@@ -39,6 +39,11 @@ leb_ltb a b = go (leb a b) refl
 abbrev pub bad : Lent → Lock → List Rec → Bool
 bad s L l = eqb (length s.lens) 0 || (ltb most_threads (length s.lens) || not (sound (scripts_of s) L l))
 
+neither : (a b : Bool) → not (a || b) ≡ true → b ≡ false
+neither true b e = absurd (true≢false (sym e))
+neither false true e = absurd (true≢false (sym e))
+neither false false e = refl
+
 -- `none` is answered of the lists
 module _ (s : Lent) (count : ℕ) (L : Lock) (l : List Rec) where
   pub lists_refuse : (why : Refusal) → ◌≡◌ {A = Told} (Err why) (answered s (lowest (list_checks s count))) → ◌≡◌ {A = Told} (Err why) (answered s (run_refusal_of s count L l))
@@ -48,6 +53,14 @@ module _ (s : Lent) (count : ℕ) (L : Lock) (l : List Rec) where
   module _ (none : ◌≡◌ {A = Told} (Ok tt) (answered s (lowest (list_checks s count)))) where
     pass : Passed (list_checks s count)
     pass = passed 0 (list_checks s count) (omega arith) (none_told s (lowest (list_checks s count)) none)
+
+    -- as many records as lengths, 16 at most
+    pub few_records : not (eqb (length s.lens) 0 || ltb most_threads (length s.lens)) ≡ true → count ≤ 16
+    few_records few =
+        let (o, vc) = (and-eq-true_iff _ _).0 (not-false _ pass.1.0) in
+        let (v, c) = (and-eq-true_iff _ _).0 vc in
+        let same : count ≡ length s.lens = eqb-true _ _ c in
+        omega (arith, same, ltb-false most_threads (length s.lens) (neither (eqb (length s.lens) 0) (ltb most_threads (length s.lens)) few))
 
     pub none_refuse : bad s L l ≡ false → ◌≡◌ {A = Told} (Ok tt) (answered s (run_refusal_of s count L l))
     unfolding run_refusal_of

@@ -81,7 +81,7 @@ fn refusal(lists: Lists, lock: Lock, recs: [Rec; 16], count: u64) -> Result<(), 
     ensures { let s = lent lists.entry in result ≡ answered s (drain_refusal_of s count lock (take count recs)) }
 {
     refused::refused(lists, lock, recs, count)?;
-    if lock_tidy::is_tidy(lists, lock, recs, count) {
+    if lock_tidy::is_tidy(lists, lock, &recs[..count as usize]) {
         Ok(())
     } else {
         Err(Refusal::from(Refused::Untidy))

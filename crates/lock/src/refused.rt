@@ -13,7 +13,9 @@ pub(crate) fn refused(lists: Lists, lock: Lock, recs: [Rec; 16], count: u64) -> 
     ensures { let s = lent lists.entry in result ≡ answered s (run_refusal_of s count lock (take count recs)) }
 {
     lock_scripts::refused(lists, count)?;
-    if some_and_few(lists.lens.len() as u64) && sound::is_sound(lists, lock, recs, count) {
+    if some_and_few(lists.lens.len() as u64)
+        && sound::is_sound(lists, lock, &recs[..count as usize])
+    {
         Ok(())
     } else {
         Err(Refusal::from(Refused::Unsound))
