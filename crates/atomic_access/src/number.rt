@@ -3,9 +3,10 @@ ghost use Rattle.std.specs.Prelude.{◌≡◌, ℕ, ◌+◌, ◌-◌, ◌%◌, �
 ghost use Rattle.atomic.specs.Bits.{bitwise, not_both};
 ghost use Rattle.atomic_access.specs.Count.{count};
 
+use super::value::Value;
 use atomic::Count;
 
-pub trait Number: Copy {
+pub trait Number: Value {
     // How many bits it has.
     ghost width: { ℕ };
 
@@ -32,7 +33,7 @@ pub trait Number: Copy {
         ensures { result ≡ number (cond (ltb (nat n) (nat self)) (nat self) (nat n)) };
 
     // A number is that of what it counts.
-    ghost back: { (n : Self) → number (nat n) ≡ n };
+    ghost counted: { (n : Self) → number (nat n) ≡ n };
 }
 
 // What the 64-bit atomic counts.
@@ -43,7 +44,7 @@ impl Number for Count {
 
     ghost number = { count };
 
-    ghost back = { λ n. refl };
+    ghost counted = { λ n. refl };
 
     fn checked_add(self, n: Count) -> Option<Count> {
         self.0.checked_add(n.0).map(Count)

@@ -35,35 +35,36 @@ module _ {M : Type 1} (𝓤 : Ura M) where
   two_live : (φ ψ : Type 0) → φ → ψ → (g : Unit {0}) × ent 𝓤 (emp 𝓤) (sep 𝓤 (fact 𝓤 φ) (sep 𝓤 (fact 𝓤 ψ) (emp 𝓤)))
   two_live φ ψ x y = (tt, also φ (sep 𝓤 (fact 𝓤 ψ) (emp 𝓤)) x (one_lives ψ y).1)
 
-of_value : (V P : RattleType) (its : Values V.Denot P.Denot) (dict : Dict) (clones : Clones V.Denot) (clone : Dict) → ((κ : Lft) → κ ⊑ V.lives) → ((κ : Lft) → κ ⊑ P.lives) → OfValue V P its dict clones clone
-of_value V P its dict clones clone lives plain_lives =
-    record {
-      load = (λ M 𝓤 𝓛 mem runs κs a. two_live 𝓤 _ _ (lives κs.1.0) (plain_lives κs.1.1.0), λ M 𝓤 𝓛 mem runs κs a r e e' g g'. with_any 𝓤 r _ _);
-      store = (λ M 𝓤 𝓛 mem runs κs a. two_live 𝓤 _ _ (lives κs.1.0) (plain_lives κs.1.1.0), λ M 𝓤 𝓛 mem runs κs a r e e' g g'. with_any 𝓤 r _ _);
-      swap = (λ M 𝓤 𝓛 mem runs κs a. two_live 𝓤 _ _ (lives κs.1.0) (plain_lives κs.1.1.0), λ M 𝓤 𝓛 mem runs κs a r e e' g g'. with_any 𝓤 r _ _);
-      compare_exchange = (λ M 𝓤 𝓛 mem runs κs a. two_live 𝓤 _ _ (lives κs.1.0) (plain_lives κs.1.1.0), λ M 𝓤 𝓛 mem runs κs a r e e' g g'. with_any 𝓤 r _ _);
-      compare_exchange_weak = (λ M 𝓤 𝓛 mem runs κs a. two_live 𝓤 _ _ (lives κs.1.0) (plain_lives κs.1.1.0), λ M 𝓤 𝓛 mem runs κs a r e e' g g'. with_any 𝓤 r _ _);
-      fetch_and = (λ M 𝓤 𝓛 mem runs κs a. two_live 𝓤 _ _ (lives κs.1.0) (plain_lives κs.1.1.0), λ M 𝓤 𝓛 mem runs κs a r e e' g g'. with_any 𝓤 r _ _);
-      fetch_or = (λ M 𝓤 𝓛 mem runs κs a. two_live 𝓤 _ _ (lives κs.1.0) (plain_lives κs.1.1.0), λ M 𝓤 𝓛 mem runs κs a r e e' g g'. with_any 𝓤 r _ _);
-      fetch_xor = (λ M 𝓤 𝓛 mem runs κs a. two_live 𝓤 _ _ (lives κs.1.0) (plain_lives κs.1.1.0), λ M 𝓤 𝓛 mem runs κs a r e e' g g'. with_any 𝓤 r _ _);
-    }
+module _ (V P : RattleType) (its : Values V.Denot P.Denot) (dict : Dict) (clones : Clones V.Denot) (clone : Dict) (lives : (κ : Lft) → κ ⊑ V.lives) (plain_lives : (κ : Lft) → κ ⊑ P.lives) where
+  of_value : OfValue V P its dict clones clone
+  of_value =
+      record {
+        load = (λ M 𝓤 𝓛 mem runs κs a. two_live 𝓤 _ _ (lives κs.1.0) (plain_lives κs.1.1.0), λ M 𝓤 𝓛 mem runs κs a r e e' g g'. with_any 𝓤 r _ _);
+        store = (λ M 𝓤 𝓛 mem runs κs a. two_live 𝓤 _ _ (lives κs.1.0) (plain_lives κs.1.1.0), λ M 𝓤 𝓛 mem runs κs a r e e' g g'. with_any 𝓤 r _ _);
+        swap = (λ M 𝓤 𝓛 mem runs κs a. two_live 𝓤 _ _ (lives κs.1.0) (plain_lives κs.1.1.0), λ M 𝓤 𝓛 mem runs κs a r e e' g g'. with_any 𝓤 r _ _);
+        compare_exchange = (λ M 𝓤 𝓛 mem runs κs a. two_live 𝓤 _ _ (lives κs.1.0) (plain_lives κs.1.1.0), λ M 𝓤 𝓛 mem runs κs a r e e' g g'. with_any 𝓤 r _ _);
+        compare_exchange_weak = (λ M 𝓤 𝓛 mem runs κs a. two_live 𝓤 _ _ (lives κs.1.0) (plain_lives κs.1.1.0), λ M 𝓤 𝓛 mem runs κs a r e e' g g'. with_any 𝓤 r _ _);
+        fetch_and = (λ M 𝓤 𝓛 mem runs κs a. two_live 𝓤 _ _ (lives κs.1.0) (plain_lives κs.1.1.0), λ M 𝓤 𝓛 mem runs κs a r e e' g g'. with_any 𝓤 r _ _);
+        fetch_or = (λ M 𝓤 𝓛 mem runs κs a. two_live 𝓤 _ _ (lives κs.1.0) (plain_lives κs.1.1.0), λ M 𝓤 𝓛 mem runs κs a r e e' g g'. with_any 𝓤 r _ _);
+        fetch_xor = (λ M 𝓤 𝓛 mem runs κs a. two_live 𝓤 _ _ (lives κs.1.0) (plain_lives κs.1.1.0), λ M 𝓤 𝓛 mem runs κs a r e e' g g'. with_any 𝓤 r _ _);
+      }
 
-of_number : (V : RattleType) (its : Numbers V.Denot) (dict : Dict) (clones : Clones V.Denot) (clone : Dict) → ((κ : Lft) → κ ⊑ V.lives) → OfNumber V its dict clones clone
-of_number V its dict clones clone lives =
-    record {
-      fetch_add = (λ M 𝓤 𝓛 mem runs κs a. one_lives 𝓤 _ (lives κs.1.0), λ M 𝓤 𝓛 mem runs κs a r e e' g g'. with_any 𝓤 r _ _);
-      fetch_sub = (λ M 𝓤 𝓛 mem runs κs a. one_lives 𝓤 _ (lives κs.1.0), λ M 𝓤 𝓛 mem runs κs a r e e' g g'. with_any 𝓤 r _ _);
-      fetch_add_wrapping = (λ M 𝓤 𝓛 mem runs κs a. one_lives 𝓤 _ (lives κs.1.0), λ M 𝓤 𝓛 mem runs κs a r e e' g g'. with_any 𝓤 r _ _);
-      fetch_sub_wrapping = (λ M 𝓤 𝓛 mem runs κs a. one_lives 𝓤 _ (lives κs.1.0), λ M 𝓤 𝓛 mem runs κs a r e e' g g'. with_any 𝓤 r _ _);
-      fetch_nand = (λ M 𝓤 𝓛 mem runs κs a. one_lives 𝓤 _ (lives κs.1.0), λ M 𝓤 𝓛 mem runs κs a r e e' g g'. with_any 𝓤 r _ _);
-      fetch_max = (λ M 𝓤 𝓛 mem runs κs a. one_lives 𝓤 _ (lives κs.1.0), λ M 𝓤 𝓛 mem runs κs a r e e' g g'. with_any 𝓤 r _ _);
-    }
+  of_number : (numbers : Numbers V.Denot P.Denot) (number : Dict) → OfNumber V P its dict clones clone numbers number
+  of_number numbers number =
+      record {
+        fetch_add = (λ M 𝓤 𝓛 mem runs κs a. two_live 𝓤 _ _ (lives κs.1.0) (plain_lives κs.1.1.0), λ M 𝓤 𝓛 mem runs κs a r e e' g g'. with_any 𝓤 r _ _);
+        fetch_sub = (λ M 𝓤 𝓛 mem runs κs a. two_live 𝓤 _ _ (lives κs.1.0) (plain_lives κs.1.1.0), λ M 𝓤 𝓛 mem runs κs a r e e' g g'. with_any 𝓤 r _ _);
+        fetch_add_wrapping = (λ M 𝓤 𝓛 mem runs κs a. two_live 𝓤 _ _ (lives κs.1.0) (plain_lives κs.1.1.0), λ M 𝓤 𝓛 mem runs κs a r e e' g g'. with_any 𝓤 r _ _);
+        fetch_sub_wrapping = (λ M 𝓤 𝓛 mem runs κs a. two_live 𝓤 _ _ (lives κs.1.0) (plain_lives κs.1.1.0), λ M 𝓤 𝓛 mem runs κs a r e e' g g'. with_any 𝓤 r _ _);
+        fetch_nand = (λ M 𝓤 𝓛 mem runs κs a. two_live 𝓤 _ _ (lives κs.1.0) (plain_lives κs.1.1.0), λ M 𝓤 𝓛 mem runs κs a r e e' g g'. with_any 𝓤 r _ _);
+        fetch_max = (λ M 𝓤 𝓛 mem runs κs a. two_live 𝓤 _ _ (lives κs.1.0) (plain_lives κs.1.1.0), λ M 𝓤 𝓛 mem runs κs a r e e' g g'. with_any 𝓤 r _ _);
+      }
 
 pub of_u64 : OfU64
-of_u64 clones clone = (of_value _ _ _ _ clones clone ⊑_static ⊑_static, of_number _ _ _ clones clone ⊑_static)
+of_u64 clones clone = (of_value _ _ _ _ clones clone ⊑_static ⊑_static, of_number _ _ _ _ clones clone ⊑_static ⊑_static _ _)
 
 pub of_u8 : OfU8
-of_u8 clones clone = (of_value _ _ _ _ clones clone ⊑_static ⊑_static, of_number _ _ _ clones clone ⊑_static)
+of_u8 clones clone = (of_value _ _ _ _ clones clone ⊑_static ⊑_static, of_number _ _ _ _ clones clone ⊑_static ⊑_static _ _)
 
 pub of_bool : OfBool
 of_bool clones clone = of_value _ _ _ _ clones clone ⊑_static ⊑_static

@@ -92,10 +92,10 @@ module _ (T : Types) (Ns : List RattleType) where
       → e.1.0.now ≡ T.perm_of r
       → ent 𝓤 ((lent M 𝓤 𝓛 mem runs κs a).ensures g (T.answer_of r) e) ((value M 𝓤 𝓛 mem runs κs.1 passed).ensures g' r e'))
 
--- ---- of each operation of what holds a V, with n lifetimes: V's own, and that of its plain type where the operation is of a value
-abbrev pub types_of : ℕ → RattleType → Types
-types_of n V = record {
-  lifetimes = suc n;
+-- ---- of each operation of what holds a V, with two lifetimes: V's own, and that of its plain type
+abbrev pub types_of : RattleType → Types
+types_of V = record {
+  lifetimes = 2;
   outlives = record { long = 1; long_ok = tt; short = named 0; short_ok = tt } ∷ [];
   seen = no;
   cell_id = CellId.the_row;
@@ -106,52 +106,48 @@ types_of n V = record {
   answer_of = λ d. d.answer;
 }
 
--- the operations of any value: of the type V in the code and P without its name, of which the impl of `Value` says `its`, whichever that is
-module _ (V P : RattleType) (its : Values V.Denot P.Denot) (dict : Dict) (clones : Clones V.Denot) (clone : Dict) where
-  abbrev V' : RattleType
-  V' = copied 0 V
+-- V is the type in the code and P its plain type, of which the impls say `its` and `numbers`, whichever they are
+module _ (V P : RattleType) where
+  abbrev held : RattleType
+  held = copied 0 V
 
   module _ (Ns : List RattleType) where
-    abbrev as_value : Contract (by_ref (types_of 1 V) Ns) → Contract (by_value (types_of 1 V) Ns) → Type 2
-    as_value = AsByValue (types_of 1 V) Ns
+    abbrev as_any : Contract (by_ref (types_of V) Ns) → Contract (by_value (types_of V) Ns) → Type 2
+    as_any = AsByValue (types_of V) Ns
 
-  pub record OfValue : Type 2 where
-    pub load : as_value [] (λ M 𝓤. lent_of.load.clauses V P its dict clones clone) (λ M 𝓤. by_value_of.load.clauses V P its dict clones clone)
-    pub store : as_value (V' ∷ []) (λ M 𝓤. lent_of.store.clauses V P its dict clones clone) (λ M 𝓤. by_value_of.store.clauses V P its dict clones clone)
-    pub swap : as_value (V' ∷ []) (λ M 𝓤. lent_of.swap.clauses V P its dict clones clone) (λ M 𝓤. by_value_of.swap.clauses V P its dict clones clone)
-    pub compare_exchange : as_value (V' ∷ V' ∷ []) (λ M 𝓤. lent_of.compare_exchange.clauses V P its dict clones clone) (λ M 𝓤. by_value_of.compare_exchange.clauses V P its dict clones clone)
-    pub compare_exchange_weak : as_value (V' ∷ V' ∷ []) (λ M 𝓤. lent_of.compare_exchange_weak.clauses V P its dict clones clone) (λ M 𝓤. by_value_of.compare_exchange_weak.clauses V P its dict clones clone)
-    pub fetch_and : as_value (V' ∷ []) (λ M 𝓤. lent_of.fetch_and.clauses V P its dict clones clone) (λ M 𝓤. by_value_of.fetch_and.clauses V P its dict clones clone)
-    pub fetch_or : as_value (V' ∷ []) (λ M 𝓤. lent_of.fetch_or.clauses V P its dict clones clone) (λ M 𝓤. by_value_of.fetch_or.clauses V P its dict clones clone)
-    pub fetch_xor : as_value (V' ∷ []) (λ M 𝓤. lent_of.fetch_xor.clauses V P its dict clones clone) (λ M 𝓤. by_value_of.fetch_xor.clauses V P its dict clones clone)
+  module _ (its : Values V.Denot P.Denot) (dict : Dict) (clones : Clones V.Denot) (clone : Dict) where
+    -- the operations of any value
+    pub record OfValue : Type 2 where
+      pub load : as_any [] (λ M 𝓤. lent_of.load.clauses V P its dict clones clone) (λ M 𝓤. by_value_of.load.clauses V P its dict clones clone)
+      pub store : as_any (held ∷ []) (λ M 𝓤. lent_of.store.clauses V P its dict clones clone) (λ M 𝓤. by_value_of.store.clauses V P its dict clones clone)
+      pub swap : as_any (held ∷ []) (λ M 𝓤. lent_of.swap.clauses V P its dict clones clone) (λ M 𝓤. by_value_of.swap.clauses V P its dict clones clone)
+      pub compare_exchange : as_any (held ∷ held ∷ []) (λ M 𝓤. lent_of.compare_exchange.clauses V P its dict clones clone) (λ M 𝓤. by_value_of.compare_exchange.clauses V P its dict clones clone)
+      pub compare_exchange_weak : as_any (held ∷ held ∷ []) (λ M 𝓤. lent_of.compare_exchange_weak.clauses V P its dict clones clone) (λ M 𝓤. by_value_of.compare_exchange_weak.clauses V P its dict clones clone)
+      pub fetch_and : as_any (held ∷ []) (λ M 𝓤. lent_of.fetch_and.clauses V P its dict clones clone) (λ M 𝓤. by_value_of.fetch_and.clauses V P its dict clones clone)
+      pub fetch_or : as_any (held ∷ []) (λ M 𝓤. lent_of.fetch_or.clauses V P its dict clones clone) (λ M 𝓤. by_value_of.fetch_or.clauses V P its dict clones clone)
+      pub fetch_xor : as_any (held ∷ []) (λ M 𝓤. lent_of.fetch_xor.clauses V P its dict clones clone) (λ M 𝓤. by_value_of.fetch_xor.clauses V P its dict clones clone)
 
--- those of a number, of which the impl of `Number` says `its`
-module _ (V : RattleType) (its : Numbers V.Denot) (dict : Dict) (clones : Clones V.Denot) (clone : Dict) where
-  abbrev V'' : RattleType
-  V'' = copied 0 V
-
-  module _ (Ns : List RattleType) where
-    abbrev as_number : Contract (by_ref (types_of 0 V) Ns) → Contract (by_value (types_of 0 V) Ns) → Type 2
-    as_number = AsByValue (types_of 0 V) Ns
-
-  pub record OfNumber : Type 2 where
-    pub fetch_add : as_number (V'' ∷ []) (λ M 𝓤. lent_of.fetch_add.clauses V its dict clones clone) (λ M 𝓤. by_value_of.fetch_add.clauses V its dict clones clone)
-    pub fetch_sub : as_number (V'' ∷ []) (λ M 𝓤. lent_of.fetch_sub.clauses V its dict clones clone) (λ M 𝓤. by_value_of.fetch_sub.clauses V its dict clones clone)
-    pub fetch_add_wrapping : as_number (V'' ∷ []) (λ M 𝓤. lent_of.fetch_add_wrapping.clauses V its dict clones clone) (λ M 𝓤. by_value_of.fetch_add_wrapping.clauses V its dict clones clone)
-    pub fetch_sub_wrapping : as_number (V'' ∷ []) (λ M 𝓤. lent_of.fetch_sub_wrapping.clauses V its dict clones clone) (λ M 𝓤. by_value_of.fetch_sub_wrapping.clauses V its dict clones clone)
-    pub fetch_nand : as_number (V'' ∷ []) (λ M 𝓤. lent_of.fetch_nand.clauses V its dict clones clone) (λ M 𝓤. by_value_of.fetch_nand.clauses V its dict clones clone)
-    pub fetch_max : as_number (V'' ∷ []) (λ M 𝓤. lent_of.fetch_max.clauses V its dict clones clone) (λ M 𝓤. by_value_of.fetch_max.clauses V its dict clones clone)
+    -- those of a number
+    pub record OfNumber (numbers : Numbers V.Denot P.Denot) (number : Dict) : Type 2 where
+      pub fetch_add : as_any (held ∷ []) (λ M 𝓤. lent_of.fetch_add.clauses V P numbers number its dict clones clone) (λ M 𝓤. by_value_of.fetch_add.clauses V P numbers number its dict clones clone)
+      pub fetch_sub : as_any (held ∷ []) (λ M 𝓤. lent_of.fetch_sub.clauses V P numbers number its dict clones clone) (λ M 𝓤. by_value_of.fetch_sub.clauses V P numbers number its dict clones clone)
+      pub fetch_add_wrapping : as_any (held ∷ []) (λ M 𝓤. lent_of.fetch_add_wrapping.clauses V P numbers number its dict clones clone) (λ M 𝓤. by_value_of.fetch_add_wrapping.clauses V P numbers number its dict clones clone)
+      pub fetch_sub_wrapping : as_any (held ∷ []) (λ M 𝓤. lent_of.fetch_sub_wrapping.clauses V P numbers number its dict clones clone) (λ M 𝓤. by_value_of.fetch_sub_wrapping.clauses V P numbers number its dict clones clone)
+      pub fetch_nand : as_any (held ∷ []) (λ M 𝓤. lent_of.fetch_nand.clauses V P numbers number its dict clones clone) (λ M 𝓤. by_value_of.fetch_nand.clauses V P numbers number its dict clones clone)
+      pub fetch_max : as_any (held ∷ []) (λ M 𝓤. lent_of.fetch_max.clauses V P numbers number its dict clones clone) (λ M 𝓤. by_value_of.fetch_max.clauses V P numbers number its dict clones clone)
 
 -- ---- at the three widths
 abbrev pub OfU64 : Type 2
 OfU64 =
     (clones : Clones Count64.the_row.Denot) (clone : Dict)
-    → OfValue Count64.the_row builtin.u64 count64.ghosts count64.dict clones clone × OfNumber Count64.the_row number64.ghosts number64.dict clones clone
+    → OfValue Count64.the_row builtin.u64 count64.ghosts count64.dict clones clone
+    × OfNumber Count64.the_row builtin.u64 count64.ghosts count64.dict clones clone number64.ghosts number64.dict
 
 abbrev pub OfU8 : Type 2
 OfU8 =
     (clones : Clones Count8.the_row.Denot) (clone : Dict)
-    → OfValue Count8.the_row builtin.u8 count8.ghosts count8.dict clones clone × OfNumber Count8.the_row number8.ghosts number8.dict clones clone
+    → OfValue Count8.the_row builtin.u8 count8.ghosts count8.dict clones clone
+    × OfNumber Count8.the_row builtin.u8 count8.ghosts count8.dict clones clone number8.ghosts number8.dict
 
 abbrev pub OfBool : Type 2
 OfBool = (clones : Clones builtin.bool.Denot) (clone : Dict) → OfValue builtin.bool builtin.bool flag.ghosts flag.dict clones clone

@@ -58,7 +58,7 @@ impl Number for Count {
 
     ghost number = { count };
 
-    ghost back = { λ n. refl };
+    ghost counted = { λ n. refl };
 
     fn checked_add(self, n: Count) -> Option<Count> {
         self.0.checked_add(n.0).map(Count)
