@@ -32,7 +32,7 @@ module _ {M : Type 1} (𝓤 : Ura M) where
   one_lives : (φ : Type 0) → φ → (g : Unit {0}) × ent 𝓤 (emp 𝓤) (sep 𝓤 (fact 𝓤 φ) (emp 𝓤))
   one_lives φ x = (tt, also φ (emp 𝓤) x (id⊢ 𝓤 (emp 𝓤)))
 
-  two_live : (φ ψ : Type 0) → φ → ψ → (g : Unit {0}) × ent 𝓤 (emp 𝓤) (sep 𝓤 (fact 𝓤 φ) (sep 𝓤 (fact 𝓤 ψ) (emp 𝓤)))
+  pub two_live : (φ ψ : Type 0) → φ → ψ → (g : Unit {0}) × ent 𝓤 (emp 𝓤) (sep 𝓤 (fact 𝓤 φ) (sep 𝓤 (fact 𝓤 ψ) (emp 𝓤)))
   two_live φ ψ x y = (tt, also φ (sep 𝓤 (fact 𝓤 ψ) (emp 𝓤)) x (one_lives ψ y).1)
 
 module _ (V P : RattleType) (its : Values V.Denot P.Denot) (dict : Dict) (clones : Clones V.Denot) (clone : Dict) (lives : (κ : Lft) → κ ⊑ V.lives) (plain_lives : (κ : Lft) → κ ⊑ P.lives) where
