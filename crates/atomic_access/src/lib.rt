@@ -134,6 +134,7 @@ pub fn fetch_max<V: Number>(c: CellId, p: Perm<V>, n: V) -> Did<V>
 }
 
 // What the access leaves and answers is `made` of the value before; where the identities differ nothing is made.
+// The identities are compared by their numbers, as `compared` of `atomic` does.
 fn access<V: Copy, F: FnOnce(V) -> (V, Answer<V>)>(c: CellId, p: Perm<V>, made: F) -> Did<V>
     requires { F.pre made p.value }
     ensures agree { c.0 ≡ p.id.0 → (F.post made p.value (result.perm.value, result.answer)) × (result.perm.id ≡ p.id) }

@@ -6,6 +6,8 @@ use atomic::CellId;
 use cell::Answer;
 use cell::value::Perm;
 
+// Three functions over the cell's own types: a `lend` for those would be that of `of_atomic` once more, and save no line.
+
 pub fn put(c: CellId, p: &mut Perm, v: u64) -> Answer
     ensures { (result ≡ (on_cell c p.old (put v)).answer) × (p.new ≡ (on_cell c p.old (put v)).perm) }
 {

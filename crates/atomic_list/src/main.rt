@@ -204,13 +204,7 @@ fn flag(n: u64) -> Option<bool> {
 }
 
 // The operations of numbers by their names in the list. A bool has no sums, no nand and no maximum.
-fn on_number<V: Number>(
-    operation: &[u8],
-    c: CellId,
-    p: Perm<V>,
-    a: V,
-    b: V,
-) -> Option<Did<V>> {
+fn on_number<V: Number>(operation: &[u8], c: CellId, p: Perm<V>, a: V, b: V) -> Option<Did<V>> {
     match operation {
         b"fetch_add" => Some(atomic_access::fetch_add(c, p, a)),
         b"fetch_sub" => Some(atomic_access::fetch_sub(c, p, a)),
