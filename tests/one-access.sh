@@ -13,7 +13,7 @@ trap 'rm -rf "$room"' EXIT
 # calls FILE: a line for each function with its calls; then how often it names one of the three, if it does
 calls() {
     awk '
-    /^(pub |pub\(crate\) )?fn / { name = $0; sub(/.*fn /, "", name); sub(/\(.*/, "", name) }
+    /^(pub |pub\(crate\) )?fn / { name = $0; sub(/.*fn /, "", name); sub(/[(<].*/, "", name) }
     /^\{/ { body = 1; made = ""; reads = 0; next }
     /^\}/ { if (body) print name ":" made (reads ? " " reads : ""); body = 0; next }
     body {
@@ -60,8 +60,9 @@ clear_flag: atomic_bool::store 1
 borrow_cell: value::borrow 1
 take_cell: value::take 1
 put_cell: value::put 1
-count_told:
-flag_told:
+perm:
+cell_perm:
+told:
 cell_told: 3
 END
     {
@@ -98,7 +99,7 @@ wrong lock/src/table.rt 'lock_access::borrow_cell(cell)' 'OnCell { got: value_of
 wrong lock/src/table.rt 'let x = lock_access::load_flag(lock.exc);' 'let x = lock_access::load_flag(lock.exc); lock_access::load_count(lock.rc);'
 wrong lock/src/table.rt 'if x\.old {' 'if lock.exc {'
 wrong lock/src/table.rt 'let old = x\.old;' 'let old = rc;'
-wrong lock_access/src/lib.rt 'cell_told(value::borrow(CELL, perm))' 'value::borrow(CELL, perm); OnCell { got: value_of(cell), left: cell }'
+wrong lock_access/src/lib.rt 'cell_told(value::borrow(CELL, cell_perm(CELL, cell)))' 'value::borrow(CELL, cell_perm(CELL, cell)); OnCell { got: value_of(cell), left: cell }'
 wrong lock_access/src/lib.rt 'atomic_u64::fetch_sub(' 'atomic_u64::swap('
 wrong lock/src/entry.rt 'lock\.finished ||' 'lock_access::load_flag(lock.exc).old ||'
 wrong lock_words/src/lib.rt 'let pred = lock\.pred;' 'let pred = lock.pred; value::take(CELL, perm);'

@@ -6,20 +6,18 @@ use lib.Dec.{eqb, ltb, leb}
 use package.borrow.Author.Tests.{eq-eqb}
 use Rattle.atomic.specs.Permission.{Left, Permission, keeps, owned}
 use Rattle.atomic.specs.Access.{Reply, old, failed, nothing, refused, Access, fetches, load, store}
+use Rattle.atomic.specs.declared.CellId.{CellId}
 use Rattle.atomic.specs.declared.Refusal.{Refusal}
 use Rattle.atomic.specs.declared.Refusal.TheVariants.{Foreign}
 use Rattle.atomic.proofs.Permission as permission
+use Rattle.atomic_access.specs.Held.{answer, held, on_held}
+use Rattle.atomic_access.specs.declared.Perm.{Perm}
+use Rattle.atomic_access.specs.declared.Answer.TheVariants.{Refused}
 use Rattle.atomic_u64.specs.U64 as u64
-use Rattle.atomic_u64.specs.declared.Perm.{Perm as Perm64}
-use Rattle.atomic_u64.specs.declared.Answer.TheVariants.{Refused as Refused64}
 use Rattle.atomic_u64.proofs.Laws as laws64
 use Rattle.atomic_u8.specs.U8 as u8
-use Rattle.atomic_u8.specs.declared.Perm.{Perm as Perm8}
-use Rattle.atomic_u8.specs.declared.Answer.TheVariants.{Refused as Refused8}
 use Rattle.atomic_u8.proofs.Laws as laws8
 use Rattle.atomic_bool.specs.Bool as flag
-use Rattle.atomic_bool.specs.declared.Perm.{Perm as PermBool}
-use Rattle.atomic_bool.specs.declared.Answer.TheVariants.{Refused as RefusedBool}
 use Rattle.atomic_bool.proofs.Laws as laws_flag
 use Rattle.cell.specs.Access.{Access as CellAccess}
 use Rattle.cell.specs.Value as cells
@@ -88,43 +86,30 @@ of_cells stated.takes (Some w) why e = cc
 of_cells stated.borrows None why e = refl
 of_cells stated.borrows (Some w) why e = refl
 
--- an answer that refuses is of a reply that does
-says64 : (r : Reply ℕ) (why : Refusal) → u64.answer r ≡ Refused64 why → r ≡ refused why
-says64 (old v) why e = cc
-says64 (failed v) why e = cc
-says64 nothing why e = cc
-says64 (refused y) why e = cc
+module _ {V A : Type 0} (plain : V → A) (of : A → V) where
+  -- an answer that refuses is of a reply that does
+  says : (r : Reply A) (why : Refusal) → answer plain of r ≡ Refused why → r ≡ refused why
+  says (old v) why e = cc
+  says (failed v) why e = cc
+  says nothing why e = cc
+  says (refused y) why e = cc
 
-says8 : (r : Reply ℕ) (why : Refusal) → u8.answer r ≡ Refused8 why → r ≡ refused why
-says8 (old v) why e = cc
-says8 (failed v) why e = cc
-says8 nothing why e = cc
-says8 (refused y) why e = cc
+  -- a permission in the types of the code
+  abbrev back : Permission A → Perm V
+  back q = record { id = q.id; value = of q.value }
 
-says_flag : (r : Reply Bool) (why : Refusal) → flag.answer r ≡ RefusedBool why → r ≡ refused why
-says_flag (old v) why e = cc
-says_flag (failed v) why e = cc
-says_flag nothing why e = cc
-says_flag (refused y) why e = cc
-
--- a permission in the types of the code
-abbrev back64 : Permission ℕ → Perm64
-back64 q = record { id = q.id; value = u64.count q.value }
-
-abbrev back8 : Permission ℕ → Perm8
-back8 q = record { id = q.id; value = u8.count q.value }
-
-abbrev back_flag : Permission Bool → PermBool
-back_flag q = record { id = q.id; value = q.value }
+  leaves : (c : CellId) (p : Perm V) (access : A → Access A) (why : Refusal) → Careful refused (plain p.value) (access (plain p.value))
+      → (on_held plain of c p access).answer ≡ Refused why → (on_held plain of c p access).perm ≡ back (held plain of p)
+  leaves c p access why careful e = ap back (leaves_it refused (refused Foreign) (eqb c.0 p.id.0) (held plain of p) access careful why (says _ why e))
 
 abbrev back_cell : Permission (Option ℕ) → PermCell
 back_cell q = record { id = q.id; content = q.value }
 
 pub refused_leaves : stated.RefusedLeaves
 refused_leaves = (
-  λ c p access why asked e. ap back64 (leaves_it refused (refused Foreign) (eqb c.0 p.id.0) (u64.held p) access (of_numbers asked p.value.0) why (says64 _ why e)),
-  λ c p access why asked e. ap back8 (leaves_it refused (refused Foreign) (eqb c.0 p.id.0) (u8.held p) access (of_numbers asked p.value.0) why (says8 _ why e)),
-  λ c p access why asked e. ap back_flag (leaves_it refused (refused Foreign) (eqb c.0 p.id.0) (flag.held p) access (of_flags asked p.value) why (says_flag _ why e)),
+  λ c p access why asked. leaves u64.counted u64.count c p access why (of_numbers asked p.value.0),
+  λ c p access why asked. leaves u8.counted u8.count c p access why (of_numbers asked p.value.0),
+  λ c p access why asked. leaves flag.itself flag.itself c p access why (of_flags asked p.value),
   λ c p access why asked e. ap back_cell (leaves_it RefusedCell (RefusedCell CellForeign) (eqb c.0 p.id.0) (cells.held p) access (of_cells asked p.content) why e),
 )
 
@@ -134,9 +119,9 @@ load_stays false p = refl
 
 pub load_leaves : stated.LoadLeaves
 load_leaves = (
-  λ c p. ap back64 (load_stays (eqb c.0 p.id.0) (u64.held p)),
-  λ c p. ap back8 (load_stays (eqb c.0 p.id.0) (u8.held p)),
-  λ c p. ap back_flag (load_stays (eqb c.0 p.id.0) (flag.held p)),
+  λ c p. ap (back u64.counted u64.count) (load_stays (eqb c.0 p.id.0) (u64.held p)),
+  λ c p. ap (back u8.counted u8.count) (load_stays (eqb c.0 p.id.0) (u8.held p)),
+  λ c p. ap (back flag.itself flag.itself) (load_stays (eqb c.0 p.id.0) (flag.held p)),
   laws_cell.borrow_leaves_all,
 )
 

@@ -2,7 +2,5 @@
 // those that take it by value and give it back. They have one shape, whatever the operands.
 #![tactic(auto)]
 
-pub mod of_bool;
+pub mod of_atomic;
 pub mod of_cell;
-pub mod of_u64;
-pub mod of_u8;

@@ -6,11 +6,12 @@ use atomic::CellId;
 use cell::Answer;
 use cell::value::Perm;
 
+// Three functions over the cell's own types: a `lend` for those would be that of `of_atomic` once more, and save no line.
+
 pub fn put(c: CellId, p: &mut Perm, v: u64) -> Answer
     ensures { (result ≡ (on_cell c p.old (put v)).answer) × (p.new ≡ (on_cell c p.old (put v)).perm) }
 {
-    let perm = *p;
-    let did = cell::value::put(c, perm, v);
+    let did = cell::value::put(c, *p, v);
     *p = did.perm;
     did.answer
 }
@@ -18,8 +19,7 @@ pub fn put(c: CellId, p: &mut Perm, v: u64) -> Answer
 pub fn take(c: CellId, p: &mut Perm) -> Answer
     ensures { (result ≡ (on_cell c p.old take).answer) × (p.new ≡ (on_cell c p.old take).perm) }
 {
-    let perm = *p;
-    let did = cell::value::take(c, perm);
+    let did = cell::value::take(c, *p);
     *p = did.perm;
     did.answer
 }
@@ -27,8 +27,7 @@ pub fn take(c: CellId, p: &mut Perm) -> Answer
 pub fn borrow(c: CellId, p: &mut Perm) -> Answer
     ensures { (result ≡ (on_cell c p.old borrow).answer) × (p.new ≡ (on_cell c p.old borrow).perm) }
 {
-    let perm = *p;
-    let did = cell::value::borrow(c, perm);
+    let did = cell::value::borrow(c, *p);
     *p = did.perm;
     did.answer
 }

@@ -1,1 +1,2 @@
 pub mod AsByValue
+pub mod AtWidths

@@ -1,2 +1,3 @@
+pub mod Count
 pub mod U8
 pub mod Laws

@@ -4,9 +4,10 @@
 
 ghost use Rattle.std.specs.Prelude.{◌-◌, ◌≡◌, true, false, not, cond, eqb, leb};
 ghost use Rattle.cell.specs.Value.{kept, put};
-ghost use Rattle.lock_access.specs.Access.{on_count, on_flag, on_cell, count_told, flag_told, cell_told};
+ghost use Rattle.lock_access.specs.Access.{on_count, on_flag, on_cell, told, cell_told};
 
 use atomic::{CellId, Count};
+use atomic_access::{Answer, Did, Perm};
 use cell::value;
 
 // The identities of the lock's two atomics and of its cell: three that differ.
@@ -16,177 +17,125 @@ const FLAG: CellId = CellId(2);
 
 const CELL: CellId = CellId(3);
 
-// Whether an access of the count was done, the count that it found, and the one that it left.
+// Whether an access of the count or of the flag was done, the value that it found, and the one that it left. It is no Option: what was
+// not done found and left something too.
 #[derive(Clone, Copy)]
-pub struct OnCount {
+pub struct On<V> {
     pub done: bool,
-    pub old: Count,
-    pub left: Count,
+    pub old: V,
+    pub left: V,
 }
 
-// The same of the flag; a store does not tell what it found, which is false here.
-#[derive(Clone, Copy)]
-pub struct OnFlag {
-    pub done: bool,
-    pub old: bool,
-    pub left: bool,
-}
-
-// What the cell gave, 0 if nothing, and what is left in it.
+// What the cell gave, 0 if nothing, as `kept` has it in the clauses of the functions below, and what is left in it.
 #[derive(Clone, Copy)]
 pub struct OnCell {
     pub got: u64,
     pub left: Option<u64>,
 }
 
-pub fn load_count(rc: Count) -> OnCount
+pub fn load_count(rc: Count) -> On<Count>
     ensures { result ≡ on_count true rc.0 rc.0 }
 {
-    let perm = atomic_u64::Perm {
-        id: COUNT,
-        value: rc,
-    };
-    count_told(atomic_u64::load(COUNT, perm))
+    told(atomic_u64::load(COUNT, perm(COUNT, rc)), Count(0))
 }
 
-pub fn exchange_count(rc: Count, from: Count, to: Count) -> OnCount
+pub fn exchange_count(rc: Count, from: Count, to: Count) -> On<Count>
     ensures { result ≡ on_count (eqb rc.0 from.0) rc.0 (cond (eqb rc.0 from.0) to.0 rc.0) }
 {
-    let perm = atomic_u64::Perm {
-        id: COUNT,
-        value: rc,
-    };
-    count_told(atomic_u64::compare_exchange(COUNT, perm, from, to))
+    told(
+        atomic_u64::compare_exchange(COUNT, perm(COUNT, rc), from, to),
+        Count(0),
+    )
 }
 
 // At 0 the atomic refuses and leaves 0, which is 0 - 1 among natural numbers.
-pub fn lower_count(rc: Count) -> OnCount
+pub fn lower_count(rc: Count) -> On<Count>
     ensures { result ≡ on_count (leb 1 rc.0) rc.0 (rc.0 - 1) }
 {
-    let perm = atomic_u64::Perm {
-        id: COUNT,
-        value: rc,
-    };
-    count_told(atomic_u64::fetch_sub(COUNT, perm, Count(1)))
+    told(
+        atomic_u64::fetch_sub(COUNT, perm(COUNT, rc), Count(1)),
+        Count(0),
+    )
 }
 
-pub fn load_flag(exc: bool) -> OnFlag
+pub fn load_flag(exc: bool) -> On<bool>
     ensures { result ≡ on_flag true exc exc }
 {
-    let perm = atomic_bool::Perm {
-        id: FLAG,
-        value: exc,
-    };
-    flag_told(atomic_bool::load(FLAG, perm))
+    told(atomic_bool::load(FLAG, perm(FLAG, exc)), false)
 }
 
 // Done where the flag was down. It is up afterwards in both cases.
-pub fn raise_flag(exc: bool) -> OnFlag
+pub fn raise_flag(exc: bool) -> On<bool>
     ensures { result ≡ on_flag (not exc) exc true }
 {
-    let perm = atomic_bool::Perm {
-        id: FLAG,
-        value: exc,
-    };
-    flag_told(atomic_bool::compare_exchange(FLAG, perm, false, true))
+    told(
+        atomic_bool::compare_exchange(FLAG, perm(FLAG, exc), false, true),
+        false,
+    )
 }
 
-pub fn clear_flag(exc: bool) -> OnFlag
+pub fn clear_flag(exc: bool) -> On<bool>
     ensures { result ≡ on_flag true false false }
 {
-    let perm = atomic_bool::Perm {
-        id: FLAG,
-        value: exc,
-    };
-    flag_told(atomic_bool::store(FLAG, perm, false))
+    told(atomic_bool::store(FLAG, perm(FLAG, exc), false), false)
 }
 
 pub fn borrow_cell(cell: Option<u64>) -> OnCell
     ensures { result ≡ on_cell (kept cell) cell }
 {
-    let perm = value::Perm {
-        id: CELL,
-        content: cell,
-    };
-    cell_told(value::borrow(CELL, perm))
+    cell_told(value::borrow(CELL, cell_perm(CELL, cell)))
 }
 
 pub fn take_cell(cell: Option<u64>) -> OnCell
     ensures { result ≡ on_cell (kept cell) None }
 {
-    let perm = value::Perm {
-        id: CELL,
-        content: cell,
-    };
-    cell_told(value::take(CELL, perm))
+    cell_told(value::take(CELL, cell_perm(CELL, cell)))
 }
 
 // A full cell stays as it is.
 pub fn put_cell(cell: Option<u64>, v: u64) -> OnCell
     ensures { result ≡ on_cell 0 (put v cell).leaves }
 {
-    let perm = value::Perm {
-        id: CELL,
-        content: cell,
-    };
-    cell_told(value::put(CELL, perm, v))
+    cell_told(value::put(CELL, cell_perm(CELL, cell), v))
 }
 
-fn count_told(d: atomic_u64::Did) -> OnCount
-    ensures { result ≡ count_told d }
+// The permission of a value, with the identity that it is for.
+fn perm<V>(id: CellId, value: V) -> Perm<V>
+    ensures { result ≡ record { id = id; value = value } }
 {
-    let perm = d.perm;
-    let left = perm.value;
-    let answer = d.answer;
-    match answer {
-        atomic_u64::Answer::Old(old) => OnCount {
-            done: true,
-            old,
-            left,
-        },
-        atomic_u64::Answer::Failed(old) => OnCount {
-            done: false,
-            old,
-            left,
-        },
-        atomic_u64::Answer::Stored => OnCount {
-            done: true,
-            old: Count(0),
-            left,
-        },
-        atomic_u64::Answer::Refused(_) => OnCount {
-            done: false,
-            old: Count(0),
-            left,
-        },
-    }
+    Perm { id, value }
 }
 
-fn flag_told(d: atomic_bool::Did) -> OnFlag
-    ensures { result ≡ flag_told d }
+fn cell_perm(id: CellId, content: Option<u64>) -> value::Perm
+    ensures { result ≡ record { id = id; content = content } }
 {
-    let perm = d.perm;
-    let left = perm.value;
-    let answer = d.answer;
-    match answer {
-        atomic_bool::Answer::Old(old) => OnFlag {
+    value::Perm { id, content }
+}
+
+// What an access did. A store does not tell what it found, nor does what is refused: `untold` stands for it.
+fn told<V: Copy>(d: Did<V>, untold: V) -> On<V>
+    ensures { result ≡ told untold d }
+{
+    let left = d.perm.value;
+    match d.answer {
+        Answer::Old(old) => On {
             done: true,
             old,
             left,
         },
-        atomic_bool::Answer::Failed(old) => OnFlag {
+        Answer::Failed(old) => On {
             done: false,
             old,
             left,
         },
-        atomic_bool::Answer::Stored => OnFlag {
+        Answer::Stored => On {
             done: true,
-            old: false,
+            old: untold,
             left,
         },
-        atomic_bool::Answer::Refused(_) => OnFlag {
+        Answer::Refused(_) => On {
             done: false,
-            old: false,
+            old: untold,
             left,
         },
     }
@@ -195,12 +144,9 @@ fn flag_told(d: atomic_bool::Did) -> OnFlag
 fn cell_told(d: value::Did) -> OnCell
     ensures { result ≡ cell_told d }
 {
-    let perm = d.perm;
-    let left = perm.content;
-    let answer = d.answer;
-    match answer {
+    let left = d.perm.content;
+    match d.answer {
         cell::Answer::Value(got) => OnCell { got, left },
-        cell::Answer::Stored => OnCell { got: 0, left },
-        cell::Answer::Refused(_) => OnCell { got: 0, left },
+        cell::Answer::Stored | cell::Answer::Refused(_) => OnCell { got: 0, left },
     }
 }

@@ -1,9 +1,0 @@
--- `nand` meets its contract: the machine's `!` of `&` is `not_both` at each bit. Assumes nothing.
-use Rattle.atomic_u64.specs.U64.{makes}
-use Rattle.atomic.specs.Access.{swap}
-use Rattle.std.proofs.Common.{ℕ, ap, ◌∙◌, rules}
-use Rattle.atomic.proofs.Bits.{nand_is}
-use Rattle.atomic_u64.proofs.nand.Goals as goal
-
-pub returns : goal.returns
-returns c = let a = c.args in c.leave.ensures ∙ ap (λ (v : ℕ). makes a.p (swap v)) (nand_is 64 a.p.value.0 a.n.0 (search rules) (search rules))
