@@ -12,7 +12,6 @@ use replay::numbers::Stored;
 use replay::reading::Reading;
 use replay::tally::Tally;
 use replay::{lists, numbers, reading, tally};
-use scenario_lines::Parsed;
 use scenario_lines::number::parse_number;
 use std::io::{Read, Stdin, Stdout};
 
@@ -116,7 +115,7 @@ fn agrees(line: &[u8]) -> bool {
     if second >= line.len() {
         return false;
     }
-    let Parsed::Is(width) = parse_number(lists::part(line, 0, first)) else {
+    let Some(width) = parse_number(lists::part(line, 0, first)) else {
         return false;
     };
     let Named::Is(operation) = by_name(lists::part(line, first + 1, second)) else {
