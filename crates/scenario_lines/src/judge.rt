@@ -50,20 +50,16 @@ fn of_numbers(k: &[u8], x: Option<u64>, y: Option<u64>, z: Option<u64>) -> Line
     of_kind(k, a, b, c)
 }
 
-#[tactic(auto, unfolding(crate::specs::Judge::kinds), using(crate::proofs::Scans::equal_pointwise))]
+#[tactic(auto, unfolding(crate::specs::Judge::kinds), using(crate::proofs::Scans::equal_reads, crate::proofs::Scans::equal_unlike))]
 fn of_kind(k: &[u8], a: u64, b: u64, c: u64) -> Line
     ensures { result ≡ kinds k.now a b c }
 {
-    if k == b"lock".as_slice() {
-        Line::Lock(a, b, c)
-    } else if k == b"pred".as_slice() {
-        Line::Pred(a, b, c)
-    } else if k == b"op".as_slice() {
-        Line::Op(a, b, c)
-    } else if k == b"run".as_slice() {
-        run_line(a, b, c)
-    } else {
-        Line::NoKind
+    match k {
+        b"lock" => Line::Lock(a, b, c),
+        b"pred" => Line::Pred(a, b, c),
+        b"op" => Line::Op(a, b, c),
+        b"run" => run_line(a, b, c),
+        _ => Line::NoKind,
     }
 }
 
