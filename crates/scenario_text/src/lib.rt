@@ -1,6 +1,7 @@
 // What is printed, as text in a lent list: numbers, rows, the header and a refusal. Each `put` function stores its text from a place on and
 // returns the place after it. Where the longest such text has no room, nothing is stored and the place given is returned; no text but that of no
-// bytes is empty, so the caller can tell.
+// bytes is empty, so the caller can tell. The `if` in each is no function of its own that takes what to write as a closure: what the closure
+// requires and stores would be two clauses more there, and its contract two lines more in each `put`.
 #![tactic(auto)]
 
 ghost use Rattle.std.specs.Prelude.{◌+◌, ◌*◌, ◌≤◌, ◌<◌, ◌≡◌, ◌++◌, [], ◌∷◌, leb, length};
