@@ -13,9 +13,10 @@ const CR: u8 = 13;
 
 const LF: u8 = 10;
 
+// The places are lent beside it: `take_line` and the others, which docs/READING.md names with these parameters, keep the two apart.
 #[derive(Clone, Copy)]
 pub struct Held {
-    // How many places of the line are taken; 81 stands for a line that is too long.
+    // How many places of the line are taken; 81 stands for a line that is too long, a number since the theorem `Chunks.AtMost80` bounds it as one.
     pub len: usize,
     // A CR is held back, until it is known whether an LF follows.
     pub cr: bool,

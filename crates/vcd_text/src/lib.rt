@@ -1,6 +1,6 @@
 // A waveform as text in a lent list: its opening with both signals at time 0, the lines of a row that changed a signal, a time. Each `put`
 // function stores its text from a place on and returns the place after it. Where the longest such text has no room, nothing is stored and the
-// place given is returned.
+// place given is returned. The `if` in each is no function that takes what to write as a closure, for the reason that `scenario_text` gives.
 #![tactic(auto)]
 
 ghost use Rattle.std.specs.Prelude.{◌≡◌, ◌+◌, ◌<◌, ◌≤◌, [], ◌++◌, length, if◌then◌else◌, nat_eq};
