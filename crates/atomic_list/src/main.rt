@@ -11,7 +11,6 @@ use replay::numbers::Stored;
 use replay::reading::Reading;
 use replay::tally::Tally;
 use replay::{lists, numbers, reading, tally};
-use scenario_lines::Parsed;
 use scenario_lines::number::parse_number;
 use std::io::{Read, Stdin, Stdout};
 
@@ -108,7 +107,7 @@ fn agrees(line: &[u8]) -> bool {
     if second >= line.len() {
         return false;
     }
-    let Parsed::Is(width) = parse_number(lists::part(line, 0, first)) else {
+    let Some(width) = parse_number(lists::part(line, 0, first)) else {
         return false;
     };
     is_row(

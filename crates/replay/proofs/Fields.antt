@@ -9,9 +9,9 @@ use borrow.Author.Tests.{ltb-true, ltb-false, lt-ltb, le-ltb}
 use lib.Dec.{eqb, ltb}
 use lib.ListN.{length, take, drop, length-drop}
 use lib.Seq.{drop-drop}
+use Rattle.std.specs.Prelude.{Option}
 use Rattle.scenario_lines.specs.Judge.{fields, comma_at}
 use Rattle.scenario_lines.specs.Number.{number}
-use Rattle.scenario_lines.specs.declared.Parsed.{Parsed}
 use Rattle.scenario_lines.proofs.Scans.{part_whole, fields_cut, fields_one}
 use Rattle.replay.specs.Lists.{part_of, place_of}
 use Rattle.replay.specs.Numbers.{Filled, filled, is_put, put_in, fill}
@@ -61,7 +61,7 @@ module _ (s : List ℕ) (from to : ℕ) (within : from ≤ length s) (here : to 
 
   -- a turn: p is what the field says, ok whether it was put, and v the words afterwards
   module _ (w : List ℕ) (n : ℕ) {all : Filled} (so_far : all ≡ fill (fields (drop from s)) w n)
-      {p : Parsed} {ok : Bool} {v : List ℕ} (says : p ≡ number (part_of from to s)) (put : (ok ≡ is_put p n w) × (v ≡ put_in p n w)) where
+      {p : Option ℕ} {ok : Bool} {v : List ℕ} (says : p ≡ number (part_of from to s)) (put : (ok ≡ is_put p n w) × (v ≡ put_in p n w)) where
     turned : all ≡ cond ok (fill (cond (ltb to (length s)) (fields (drop (to + 1) s)) []) v (suc n)) (filled Broken v)
     unfolding fill
     turned =

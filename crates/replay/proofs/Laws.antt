@@ -10,9 +10,9 @@ use borrow.Author.Tests.{eq-eqb, eqb-true, lt-ltb}
 use lib.Dec.{eqb}
 use lib.ListN.{length, set, replicate, length-set}
 use lib.Seq.{sets, sets-eq}
+use Rattle.std.specs.Prelude.{Some}
 use Rattle.scenario_lines.specs.Judge.{equal, fields}
 use Rattle.scenario_lines.specs.Number.{number}
-use Rattle.scenario_lines.specs.declared.Parsed.TheVariants.{Is}
 use Rattle.replay.specs.Lists.{front_then}
 use Rattle.replay.specs.Numbers.{filled, fill}
 use Rattle.replay.specs.Reading.{Took, took, taking, byte_before, grown}
@@ -69,14 +69,14 @@ pub front_and_rest : FrontAndRest
 front_and_rest x l front = (front_is x l front, is_front x front)
 
 -- ---- numbers in their places
-put_all : (fs : List (List ℕ)) (w vs : List ℕ) (n : ℕ) → map number fs ≡ map Is vs → n + length vs ≤ length w → fill fs w n ≡ filled (All (n + length vs)) (sets w n vs)
+put_all : (fs : List (List ℕ)) (w vs : List ℕ) (n : ℕ) → map number fs ≡ map Some vs → n + length vs ≤ length w → fill fs w n ≡ filled (All (n + length vs)) (sets w n vs)
 unfolding fill
 put_all [] w [] n e h = let z : n + 0 ≡ n = omega arith in rw z
 put_all [] w (v ∷ vs) n e h = let z : ◌≡◌ {A = ℕ} 0 1 = cc in absurd (omega arith)
 put_all (f ∷ fs) w [] n e h = let z : ◌≡◌ {A = ℕ} 0 1 = cc in absurd (omega arith)
 put_all (f ∷ fs) w (v ∷ vs) n e h =
-    let first : number f ≡ Is v = cc in
-    let later : map number fs ≡ map Is vs = cc in
+    let first : number f ≡ Some v = cc in
+    let later : map number fs ≡ map Some vs = cc in
     let width : n + suc (length vs) ≡ suc n + length vs = omega arith in
     let room : suc n + length vs ≤ length (set w n v) = omega (arith, length-set w n v) in
     rw (first, lt-ltb n (length w) (omega arith), width) (put_all fs (set w n v) vs (suc n) later room)

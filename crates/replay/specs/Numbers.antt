@@ -1,9 +1,7 @@
 -- The numbers of a line, as `scenario_lines` has fields and numbers, and the list of words that they go to.
-use Rattle.std.specs.Prelude.{ℕ, suc, Bool, false, cond, List, [], ◌∷◌, eqb, ltb, length, set}
+use Rattle.std.specs.Prelude.{ℕ, suc, Bool, false, cond, List, [], ◌∷◌, eqb, ltb, length, set, Option, Some, None}
 use Rattle.scenario_lines.specs.Judge.{fields, comma}
 use Rattle.scenario_lines.specs.Number.{number}
-use Rattle.scenario_lines.specs.declared.Parsed.{Parsed}
-use Rattle.scenario_lines.specs.declared.Parsed.TheVariants.{No, Is}
 use Rattle.replay.specs.Lists.{part_of, place_from}
 use Rattle.replay.specs.declared.numbers.Stored.{Stored}
 use Rattle.replay.specs.declared.numbers.Stored.TheVariants.{Broken, All}
@@ -17,13 +15,13 @@ abbrev pub filled : Stored → List ℕ → Filled
 filled told w = record { told = told; words = w }
 
 -- one number at a place, if it is a number and the place is one of the list's
-abbrev pub is_put : Parsed → ℕ → List ℕ → Bool
-is_put No n w = false
-is_put (Is v) n w = ltb n (length w)
+abbrev pub is_put : Option ℕ → ℕ → List ℕ → Bool
+is_put None n w = false
+is_put (Some v) n w = ltb n (length w)
 
-abbrev pub put_in : Parsed → ℕ → List ℕ → List ℕ
-put_in No n w = w
-put_in (Is v) n w = set w n v
+abbrev pub put_in : Option ℕ → ℕ → List ℕ → List ℕ
+put_in None n w = w
+put_in (Some v) n w = set w n v
 
 -- fields from a place on, up to the first that cannot be put
 unfoldable pub fill : List (List ℕ) → List ℕ → ℕ → Filled
@@ -37,9 +35,9 @@ numbers_of text w = fill (fields text) w 0
 abbrev pub wrong_mark : ℕ
 wrong_mark = 999
 
-abbrev pub is_number : ℕ → Parsed → Bool
-is_number n No = false
-is_number n (Is v) = eqb v n
+abbrev pub is_number : ℕ → Option ℕ → Bool
+is_number n None = false
+is_number n (Some v) = eqb v n
 
 unfoldable pub on_purpose : List ℕ → Bool
 on_purpose l = is_number wrong_mark (number (part_of 0 (place_from comma 0 l) l))

@@ -3,7 +3,6 @@ ghost use Rattle.std.specs.Prelude.{◌≡◌};
 ghost use Rattle.replay.specs.Numbers.{numbers_of, is_put, put_in, on_purpose};
 
 use super::lists::{find, part};
-use scenario_lines::Parsed;
 use scenario_lines::number::parse_number;
 
 // What the first number of a line says that is wrong on purpose.
@@ -43,18 +42,18 @@ pub fn is_wrong(text: &[u8]) -> bool
 {
     let what = parse_number(part(text, 0, find(text, 0, b',')));
     match what {
-        Parsed::Is(n) => n == WRONG,
-        Parsed::No => false,
+        Some(n) => n == WRONG,
+        None => false,
     }
 }
 
-fn put(words: &mut [u64], at: usize, what: Parsed) -> bool
+fn put(words: &mut [u64], at: usize, what: Option<u64>) -> bool
     ensures value { result ≡ is_put what at words.old }
     ensures words_after { words.new ≡ put_in what at words.old }
 {
     match what {
-        Parsed::No => false,
-        Parsed::Is(n) => {
+        None => false,
+        Some(n) => {
             if at >= words.len() {
                 return false;
             }

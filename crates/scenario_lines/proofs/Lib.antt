@@ -7,3 +7,4 @@ pub mod Takes
 pub mod Edges
 pub mod Split
 pub mod Chunks
+pub mod Parts

@@ -1,11 +1,9 @@
 -- What one line says: its form, its three numbers, its kind.
-use Rattle.std.specs.Prelude.{ℕ, suc, Bool, true, false, ◌||◌, ◌&&◌, not, cond, List, [], ◌∷◌, eqb, ltb, length}
+use Rattle.std.specs.Prelude.{ℕ, suc, Bool, true, false, ◌||◌, ◌&&◌, not, cond, List, [], ◌∷◌, eqb, ltb, length, Option, Some, None}
 use Rattle.scenario_lines.specs.Ascii.{bytes}
 use Rattle.scenario_lines.specs.Lines.{cr, lf, glue}
 use Rattle.scenario_lines.specs.Bytes.{longest}
 use Rattle.scenario_lines.specs.Number.{number}
-use Rattle.scenario_lines.specs.declared.Parsed.{Parsed}
-use Rattle.scenario_lines.specs.declared.Parsed.TheVariants.{No, Is}
 use Rattle.scenario_lines.specs.declared.Line.{Line}
 use Rattle.scenario_lines.specs.declared.Line.TheVariants.{Broken, Header, BadNumber, Lock, Pred, Op, Run, NoKind}
 
@@ -49,19 +47,19 @@ kinds k a b c =
     (cond (equal k (bytes "run")) (runs a b c)
     NoKind)))
 
-abbrev pub numbered : List ℕ → Parsed → Parsed → Parsed → Line
-numbered k No y z = BadNumber
-numbered k (Is a) No z = BadNumber
-numbered k (Is a) (Is b) No = BadNumber
-numbered k (Is a) (Is b) (Is c) = kinds k a b c
+abbrev pub numbered : List ℕ → Option ℕ → Option ℕ → Option ℕ → Line
+numbered k None y z = BadNumber
+numbered k (Some a) None z = BadNumber
+numbered k (Some a) (Some b) None = BadNumber
+numbered k (Some a) (Some b) (Some c) = kinds k a b c
 
 -- exactly four fields: a kind and three numbers
-abbrev pub fourth : List ℕ → Parsed → Parsed → List (List ℕ) → Line
+abbrev pub fourth : List ℕ → Option ℕ → Option ℕ → List (List ℕ) → Line
 fourth k a b [] = Broken
 fourth k a b (c ∷ []) = numbered k a b (number c)
 fourth k a b (c ∷ d ∷ l) = Broken
 
-abbrev pub third : List ℕ → Parsed → List (List ℕ) → Line
+abbrev pub third : List ℕ → Option ℕ → List (List ℕ) → Line
 third k a [] = Broken
 third k a (b ∷ l) = fourth k a (number b) l
 

@@ -3,7 +3,7 @@ ghost use Rattle.std.specs.Prelude.{◌≡◌, drop};
 ghost use Rattle.scenario_lines.specs.Judge.{judge};
 ghost use Rattle.scenario_lines.specs.Held.{unheld, grown, kept, held_after, line_after, took, taken_from, held_end, line_end, view};
 
-use super::judge::{judge_line, upto};
+use super::judge::judge_line;
 use super::{LONGEST, Line};
 
 // What stands for the number of bytes of a line that has more.
@@ -13,9 +13,10 @@ const CR: u8 = 13;
 
 const LF: u8 = 10;
 
+// The places are lent beside it: `take_line` and the others, which docs/READING.md names with these parameters, keep the two apart.
 #[derive(Clone, Copy)]
 pub struct Held {
-    // How many places of the line are taken; 81 stands for a line that is too long.
+    // How many places of the line are taken; 81 stands for a line that is too long, a number since the theorem `Chunks.AtMost80` bounds it as one.
     pub len: usize,
     // A CR is held back, until it is known whether an LF follows.
     pub cr: bool,
@@ -42,46 +43,22 @@ pub fn begin() -> Held
 }
 
 // One byte.
+#[tactic(auto, unfolding(crate::specs::Held::held_after, crate::specs::Held::line_after))]
 pub fn push(line: &mut [u8; 80], h: Held, b: u8) -> Held
     ensures value { result ≡ held_after h b }
     ensures line_after { line.new ≡ line_after line.old h b }
 {
-    let len = h.len;
-    let cr = h.cr;
-    if cr {
-        if b == LF {
-            return Held {
-                len,
-                cr: false,
-                done: true,
-            };
-        }
-        let n = put(line, len, CR);
-        if b == CR {
-            return Held {
-                len: n,
-                cr: true,
-                done: false,
-            };
-        }
-        let m = put(line, n, b);
+    if h.cr && b == LF {
         return Held {
-            len: m,
             cr: false,
-            done: false,
+            done: true,
+            ..h
         };
     }
-    if b == CR {
-        return Held {
-            len,
-            cr: true,
-            done: false,
-        };
-    }
-    let n = put(line, len, b);
+    let n = if h.cr { put(line, h.len, CR) } else { h.len };
     Held {
-        len: n,
-        cr: false,
+        len: if b == CR { n } else { put(line, n, b) },
+        cr: b == CR,
         done: false,
     }
 }
@@ -91,61 +68,42 @@ pub fn take_line(line: &mut [u8; 80], h: Held, chunk: &[u8], from: usize) -> Tak
     ensures value { result ≡ taken_from from (took (drop from chunk.now) line.old h) }
     ensures line_after { line.new ≡ (took (drop from chunk.now) line.old h).line }
 {
-    let mut g = Held {
-        len: h.len,
-        cr: h.cr,
-        done: false,
-    };
-    let mut i = from;
-    while i < chunk.len() {
+    let mut g = Held { done: false, ..h };
+    for i in from..chunk.len() {
         g = push(line, g, chunk[i]);
-        i += 1;
         if g.done {
-            return Taken { held: g, at: i };
+            return Taken { held: g, at: i + 1 };
         }
     }
-    Taken { held: g, at: i }
+    Taken {
+        held: g,
+        at: from.max(chunk.len()),
+    }
 }
 
 // The end of the input: what is held is the last line, unless nothing is.
+#[tactic(auto, unfolding(crate::specs::Held::held_end, crate::specs::Held::line_end))]
 pub fn finish(line: &mut [u8; 80], h: Held) -> Held
     ensures value { result ≡ held_end h }
     ensures line_after { line.new ≡ line_end line.old h }
 {
-    let len = h.len;
-    let cr = h.cr;
-    if cr {
-        let n = put(line, len, CR);
-        return Held {
-            len: n,
-            cr: false,
-            done: true,
-        };
-    }
     Held {
-        len,
+        len: if h.cr { put(line, h.len, CR) } else { h.len },
         cr: false,
-        done: 0 < len,
+        done: h.cr || 0 < h.len,
     }
 }
 
 // What the line says of which n places are taken.
+#[tactic(auto, unfolding(crate::specs::Held::view), using(crate::proofs::Judged::for_too_long))]
 pub fn judge_held(line: &[u8; 80], n: usize) -> Line
     ensures { result ≡ judge (view line.now n) }
 {
-    judge_front(line, n)
-}
-
-fn judge_front(s: &[u8], n: usize) -> Line
-    ensures { result ≡ judge (view s.now n) }
-{
-    if TOO_LONG <= n {
-        return Line::Broken;
+    if n <= LONGEST {
+        judge_line(&line[..n])
+    } else {
+        Line::Broken
     }
-    if n <= s.len() {
-        return judge_line(upto(s, n));
-    }
-    judge_line(s)
 }
 
 // One byte more of the line.
@@ -155,7 +113,8 @@ fn put(line: &mut [u8; 80], n: usize, b: u8) -> usize
 {
     if n < LONGEST {
         line[n] = b;
-        return n + 1;
+        n + 1
+    } else {
+        TOO_LONG
     }
-    TOO_LONG
 }

@@ -8,13 +8,6 @@ pub mod number;
 // The most bytes of a line, before its break.
 pub const LONGEST: usize = 80;
 
-// What digits say.
-#[derive(Clone, Copy)]
-pub enum Parsed {
-    No,
-    Is(u64),
-}
-
 // What one line says.
 #[derive(Clone, Copy)]
 pub enum Line {

@@ -2,70 +2,37 @@
 ghost use Rattle.std.specs.Prelude.{◌≡◌};
 ghost use Rattle.scenario_lines.specs.Number.{number, scan, more};
 
-use super::Parsed;
-
-// The largest number that can be followed by a digit at all.
-const TENTH: u64 = 1844674407370955161;
-
 // The number that a whole text is.
-pub fn parse_number(s: &[u8]) -> Parsed
+#[tactic(auto, using(crate::proofs::Scans::number_none, crate::proofs::Scans::number_zero, crate::proofs::Scans::number_needless, crate::proofs::Scans::number_scan))]
+pub fn parse_number(s: &[u8]) -> Option<u64>
     ensures { result ≡ number s.now }
 {
-    if s.len() == 0 {
-        return Parsed::No;
+    match s {
+        [] => None,
+        b"0" => Some(0),
+        [b'0', ..] => None,
+        _ => scan_digits(s),
     }
-    if s[0] == b'0' {
-        if s.len() == 1 {
-            return Parsed::Is(0);
-        }
-        return Parsed::No;
-    }
-    scan_digits(s)
 }
 
-fn scan_digits(s: &[u8]) -> Parsed
+#[tactic(auto, using(crate::proofs::Scans::scan_no, crate::proofs::Scans::scan_is, crate::proofs::Scans::scan_over))]
+fn scan_digits(s: &[u8]) -> Option<u64>
     ensures { result ≡ scan 0 s.now }
 {
     let mut v: u64 = 0;
-    let mut i = 0;
-    while i < s.len() {
-        let m = one_more(v, s[i]);
-        match m {
-            Parsed::No => {
-                return Parsed::No;
-            }
-            Parsed::Is(x) => {
-                v = x;
-            }
-        }
-        i += 1;
+    for b in s {
+        v = one_more(v, *b)?;
     }
-    Parsed::Is(v)
+    Some(v)
 }
 
 // v with the digit b after it.
-pub fn one_more(v: u64, b: u8) -> Parsed
+#[tactic(auto, unfolding(crate::specs::Number::more))]
+pub fn one_more(v: u64, b: u8) -> Option<u64>
     ensures { result ≡ more v b }
 {
-    if b < b'0' {
-        return Parsed::No;
+    if !b.is_ascii_digit() {
+        return None;
     }
-    if b'9' < b {
-        return Parsed::No;
-    }
-    if TENTH < v {
-        return Parsed::No;
-    }
-    let d = wide(b) - 48;
-    let t = v * 10;
-    if u64::MAX - t < d {
-        return Parsed::No;
-    }
-    Parsed::Is(t + d)
-}
-
-fn wide(x: u8) -> u64
-    ensures { result ≡ x }
-{
-    x as u64
+    v.checked_mul(10)?.checked_add(u64::from(b - b'0'))
 }

@@ -7,12 +7,11 @@ use native.Mathlib.Omega.{arith}
 use borrow.Author.Tests.{ltb-true}
 use lib.Dec.{eqb, ltb}
 use lib.ListN.{length}
+use Rattle.std.specs.Prelude.{Option, Some, None}
 use Rattle.scenario_lines.specs.Ascii.{bytes}
 use Rattle.scenario_lines.specs.Bytes.{longest}
 use Rattle.scenario_lines.specs.Number.{number}
 use Rattle.scenario_lines.specs.Judge.{header, equal, clean, fields, runs, kinds, numbered, fourth, third, second, first, judge}
-use Rattle.scenario_lines.specs.declared.Parsed.{Parsed}
-use Rattle.scenario_lines.specs.declared.Parsed.TheVariants.{No, Is}
 use Rattle.scenario_lines.specs.declared.Line.{Line}
 use Rattle.scenario_lines.specs.declared.Line.TheVariants.{Broken, Header, BadNumber, Lock, Pred as PredLine, Op, Run, NoKind}
 use Rattle.scenario.specs.Names.{wrong_line}
@@ -49,18 +48,18 @@ module _
       (either (equal k (bytes "op")) (Op a b c) _ (op a b c)
       (either (equal k (bytes "run")) (runs a b c) NoKind (runs_by a b c) no_kind)))
 
-  numbered_by : (k : List ℕ) (a b c : Parsed) → P (numbered k a b c)
-  numbered_by k No b c = bad_number
-  numbered_by k (Is a) No c = bad_number
-  numbered_by k (Is a) (Is b) No = bad_number
-  numbered_by k (Is a) (Is b) (Is c) = kinds_by k a b c
+  numbered_by : (k : List ℕ) (a b c : Option ℕ) → P (numbered k a b c)
+  numbered_by k None b c = bad_number
+  numbered_by k (Some a) None c = bad_number
+  numbered_by k (Some a) (Some b) None = bad_number
+  numbered_by k (Some a) (Some b) (Some c) = kinds_by k a b c
 
-  fourth_by : (k : List ℕ) (a b : Parsed) (l : List (List ℕ)) → P (fourth k a b l)
+  fourth_by : (k : List ℕ) (a b : Option ℕ) (l : List (List ℕ)) → P (fourth k a b l)
   fourth_by k a b [] = broken
   fourth_by k a b (c ∷ []) = numbered_by k a b (number c)
   fourth_by k a b (c ∷ d ∷ l) = broken
 
-  third_by : (k : List ℕ) (a : Parsed) (l : List (List ℕ)) → P (third k a l)
+  third_by : (k : List ℕ) (a : Option ℕ) (l : List (List ℕ)) → P (third k a l)
   third_by k a [] = broken
   third_by k a (b ∷ l) = fourth_by k a (number b) l
 

@@ -2,8 +2,8 @@
 use Rattle.std.proofs.Common.{◌≡◌, ℕ, suc, ◌+◌, ◌-◌, ◌*◌, ◌^◌, ◌<◌, ◌≤◌, Bool, true, false, ◌&&◌, List, [], ◌∷◌, ◌++◌, length, get_or, take, drop, sym, refl, ap, ◌∙◌, add-one, arith, take-append-drop, length-take-le, drop-cons, take-suc, lt-ltb, ne_eqb, le-leb}
 use mathlib.Core.Bool.{false≢true}
 use lib.Seq.{slice, slice-cons, slice_empty, drop-append-le}
+use Rattle.std.specs.Prelude.{Some}
 use Rattle.scenario_lines.specs.Number.{digit, digits, number, plainly, decimal}
-use Rattle.scenario_lines.specs.declared.Parsed.TheVariants.{Is}
 use Rattle.scenario_read.specs.RunAt.{Four, NumberAt}
 
 -- ---- parts of a list
@@ -66,7 +66,7 @@ module _ (s : List ℕ) (from : ℕ) where
       let (plain, worth) = count_more from 0 (omega arith) k (rw (slice_empty from s) (refl, refl)) (low, high) in
       (plain, worth ∙ omega arith)
 
-  says_number : (b : ℕ) (l : List ℕ) (v : ℕ) → (b ≡ 48 → ⊥) → digits (b ∷ l) ≡ true → decimal 0 (b ∷ l) ≡ v → v < 65536 → number (b ∷ l) ≡ Is v
+  says_number : (b : ℕ) (l : List ℕ) (v : ℕ) → (b ≡ 48 → ⊥) → digits (b ∷ l) ≡ true → decimal 0 (b ∷ l) ≡ v → v < 65536 → number (b ∷ l) ≡ Some v
   unfolding number plainly digits
   says_number b [] v apart plain worth few = rw (first_so (digit b) plain, worth, lt-ltb v (2 ^ 64) (omega arith)) refl
     where

@@ -2,6 +2,7 @@
 use Rattle.std.proofs.Common.{◌≡◌, ℕ, suc, ◌+◌, ◌<◌, ◌≤◌, Bool, true, false, not, ◌&&◌, eqb, leb, List, [], ◌∷◌, ◌++◌, length, set, sym, refl, ap, ◌∙◌, arith, le-ltb, lt-ltb, ne_eqb, leb-true}
 use mathlib.Core.Bool.{false≢true}
 use lib.Seq.{sets}
+use Rattle.std.specs.Prelude.{Some}
 use Rattle.scenario_lines.specs.Bytes.{longest}
 use Rattle.scenario_lines.specs.Lines.{cr, lf}
 use Rattle.scenario_lines.specs.Chunks.{no_return}
@@ -9,7 +10,6 @@ use Rattle.scenario_lines.specs.Number.{digit, digits, number, plainly, decimal}
 use Rattle.scenario_lines.specs.Judge.{comma, foul, clean, equal, fields, kinds, judge}
 use Rattle.scenario_lines.specs.Split.{plain}
 use Rattle.scenario_lines.specs.Held.{held, took, taking, one_byte_more, held_after, line_after}
-use Rattle.scenario_lines.specs.declared.Parsed.TheVariants.{Is}
 use Rattle.scenario_lines.specs.declared.Line.TheVariants.{Run}
 use Rattle.scenario_lines.proofs.Split.{field_split}
 
@@ -64,7 +64,7 @@ join_by f g j (x ∷ a) b ea eb =
 abbrev pub run_line : List ℕ → List ℕ → List ℕ
 run_line d e = 114 ∷ 117 ∷ 110 ∷ comma ∷ (d ++ (comma ∷ (e ++ (comma ∷ 48 ∷ []))))
 
-module _ (d e : List ℕ) (t n : ℕ) (dd : digits d ≡ true) (de : digits e ≡ true) (nd : number d ≡ Is t) (ne : number e ≡ Is n)
+module _ (d e : List ℕ) (t n : ℕ) (dd : digits d ≡ true) (de : digits e ≡ true) (nd : number d ≡ Some t) (ne : number e ≡ Some n)
     (few : t < 256) (some : 0 < n) (most : n < 65536) (short : length (run_line d e) ≤ longest) where
   fields_so : fields (run_line d e) ≡ (114 ∷ 117 ∷ 110 ∷ []) ∷ d ∷ e ∷ (48 ∷ []) ∷ []
   fields_so =

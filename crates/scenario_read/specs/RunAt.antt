@@ -1,12 +1,11 @@
 -- A run line that stands whole in a chunk, with its break.
-use Rattle.std.specs.Prelude.{◌≡◌, ℕ, ◌+◌, ◌-◌, ◌<◌, ◌≤◌, true, List, ◌∷◌, ◌++◌, length, drop}
+use Rattle.std.specs.Prelude.{◌≡◌, ℕ, ◌+◌, ◌-◌, ◌<◌, ◌≤◌, true, List, ◌∷◌, ◌++◌, length, drop, Some}
 use Rattle.std.proofs.Math.Seq.{slice}
 use Rattle.scenario_lines.specs.Lines.{cr, lf}
 use Rattle.scenario_lines.specs.Bytes.{longest}
 use Rattle.scenario_lines.specs.Chunks.{no_return}
 use Rattle.scenario_lines.specs.Number.{digits, number}
 use Rattle.scenario_lines.specs.Judge.{judge}
-use Rattle.scenario_lines.specs.declared.Parsed.TheVariants.{Is}
 use Rattle.scenario_lines.specs.declared.Line.TheVariants.{Run}
 
 -- four bytes from a place on
@@ -18,7 +17,7 @@ pub record NumberAt (s : List ℕ) (from at value : ℕ) : Type 0 where
   pub onward : from < at
   pub inside : at ≤ length s
   pub plain : digits (slice from at s) ≡ true
-  pub says : number (slice from at s) ≡ Is value
+  pub says : number (slice from at s) ≡ Some value
 
 -- the bytes from a place up to another are a run line and its break
 pub record RunAt (s : List ℕ) (from thread times at : ℕ) : Type 0 where

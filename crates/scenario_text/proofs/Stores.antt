@@ -4,11 +4,10 @@ use mathlib.Core.Bool.{Bool, true, false}
 use borrow.Author.Tests.{le-leb, lt-leb, leb-true, leb-false}
 use mathlib.Core.Path.{◌≡◌, refl, sym, ap, ◌∙◌}
 use mathlib.Core.List.{List, [], ◌∷◌, ◌++◌}
-use native.Mathlib.Numerals.{add-one}
 use native.Mathlib.Omega.{arith}
 use lib.Dec.{leb}
-use lib.ListN.{length, get_or, drop, set, length-append, drop_of_length-le}
-use lib.Seq.{drop-cons, set_comm, sets, length-sets}
+use lib.ListN.{length, set, length-append}
+use lib.Seq.{set_comm, sets, length-sets}
 use Rattle.scenario_text.specs.Number.{text}
 use Rattle.scenario_text.specs.Put.{Put, stored, place_after}
 use Rattle.scenario_text.proofs.Digits.{text_one, text_more}
@@ -39,16 +38,6 @@ digit_stored l at p w d h g e f = last_stored (text (w / 10)) l at p (48 + w % 1
 
 pub first_stored : (l : List ℕ) (at w d : ℕ) → w < 10 → d ≡ 48 + w → sets l at (text w) ≡ set l at d
 first_stored l at w d h f = rw (text_one w h, f)
-
--- ---- the loop over bytes
-module _ (s o : List ℕ) (at i : ℕ) where
-  pub copy_on : i < length s → sets o (at + i) (drop i s) ≡ sets (set o (at + i) (get_or s i 0)) (at + (i + 1)) (drop (i + 1) s)
-  copy_on h =
-      let e : at + (i + 1) ≡ suc (at + i) = omega arith in
-      rw (e, add-one i, drop-cons s i 0)
-
-  pub copy_over : length s ≤ i → sets o (at + i) (drop i s) ≡ o
-  copy_over h = rw (drop_of_length-le s h)
 
 -- ---- what was stored
 pub puts : (o p s : List ℕ) (at r most : ℕ) → r ≡ at + length s → p ≡ sets o at s → length s ≤ most → Put o at s most r p

@@ -1,8 +1,7 @@
 -- What is claimed of a number's text: it is the decimal, digits alone without a needless zero, and it reads back as the number.
-use Rattle.std.specs.Prelude.{ℕ, ◌-◌, ◌^◌, ◌<◌, ◌≡◌, true}
+use Rattle.std.specs.Prelude.{ℕ, ◌-◌, ◌^◌, ◌<◌, ◌≡◌, true, Some}
 use Rattle.scenario_lines.specs.Ascii.{bytes}
 use Rattle.scenario_lines.specs.Number.{plainly, decimal, fits, number}
-use Rattle.scenario_lines.specs.declared.Parsed.TheVariants.{Is}
 use Rattle.scenario_text.specs.Number.{text}
 
 -- 20 digits are enough below this; of what is larger the first digits are lost
@@ -20,7 +19,7 @@ abbrev pub ReadAs : Type 0
 ReadAs = (v : ℕ) → v < twenty_digits → number (text v) ≡ fits v
 
 abbrev pub ReadsBack : Type 0
-ReadsBack = (v : ℕ) → v < 2 ^ 64 → number (text v) ≡ Is v
+ReadsBack = (v : ℕ) → v < 2 ^ 64 → number (text v) ≡ Some v
 
 -- the edges, computed
 abbrev pub TextEdges : Type 0

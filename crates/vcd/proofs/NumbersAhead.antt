@@ -5,8 +5,8 @@ use mathlib.Core.Path.{◌≡◌, refl, ◌∙◌}
 use mathlib.Core.List.{List, ◌∷◌, ◌++◌}
 use native.Mathlib.Omega.{arith}
 use borrow.Author.Tests.{lt-ltb, le-leb}
+use Rattle.std.specs.Prelude.{Some}
 use Rattle.scenario_lines.specs.Number.{more}
-use Rattle.scenario_lines.specs.declared.Parsed.TheVariants.{Is}
 use Rattle.scenario_text.specs.Number.{text}
 use Rattle.scenario_text.proofs.Values.{taken}
 use Rattle.vcd.specs.Binary.{is_bit, binary}
@@ -16,7 +16,7 @@ use Rattle.vcd.specs.Read.{digits_ahead, bits_ahead}
 less_48 : (d : ℕ) → 48 + d - 48 ≡ d
 less_48 d = omega arith
 
-more_is : (a d : ℕ) → d < 10 → a * 10 + d < 2 ^ 64 → more a (48 + d) ≡ Is (a * 10 + d)
+more_is : (a d : ℕ) → d < 10 → a * 10 + d < 2 ^ 64 → more a (48 + d) ≡ Some (a * 10 + d)
 unfolding more
 more_is a d h g = rw (le-leb 48 (48 + d) (omega arith), le-leb (48 + d) 57 (omega arith), less_48 d, lt-ltb (a * 10 + d) (2 ^ 64) g)
 

@@ -1,10 +1,8 @@
 -- What the reader answers, and what it leaves. A block is read in two steps: what it would say is gathered, without a test; then the text that the
 -- writer has for that is compared with what stands there. So nothing passes that is not the writer's, and Exact says that all of it passes.
-use Rattle.std.specs.Prelude.{ℕ, zero, suc, ◌+◌, ◌*◌, ◌-◌, ◌^◌, Bool, true, false, ◌||◌, ◌&&◌, not, cond, List, [], ◌∷◌, ◌++◌, eqb, ltb, leb, length, get_or, drop, replicate}
+use Rattle.std.specs.Prelude.{ℕ, zero, suc, ◌+◌, ◌*◌, ◌-◌, ◌^◌, Bool, true, false, ◌||◌, ◌&&◌, not, cond, List, [], ◌∷◌, ◌++◌, eqb, ltb, leb, length, get_or, drop, replicate, Option, Some as Is, None as No}
 use Rattle.std.proofs.lemmas.List.Edits.{sets}
 use Rattle.scenario_lines.specs.Number.{more}
-use Rattle.scenario_lines.specs.declared.Parsed.{Parsed}
-use Rattle.scenario_lines.specs.declared.Parsed.TheVariants.{No, Is}
 use Rattle.vcd.specs.Binary.{is_bit}
 use Rattle.vcd.specs.Blocks.{time_line, front, same, changed}
 use Rattle.vcd.specs.Trace.{most_rows, words}
@@ -18,7 +16,7 @@ no_wave = 42
 
 -- ---- what a block would say
 -- a digit more, or no more
-abbrev pub or_stay : ℕ → Parsed → (ℕ → ℕ) → ℕ
+abbrev pub or_stay : ℕ → Option ℕ → (ℕ → ℕ) → ℕ
 or_stay v No k = v
 or_stay v (Is x) k = k x
 

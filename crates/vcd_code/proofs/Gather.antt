@@ -9,8 +9,8 @@ use borrow.Author.Tests.{lt-ltb, le-ltb, eq-eqb, ne_eqb, eqb-true}
 use lib.Dec.{eqb}
 use lib.ListN.{length, get_or, drop, drop_of_length-le}
 use lib.Seq.{drop-cons, drop-length}
+use Rattle.std.specs.Prelude.{Some, None}
 use Rattle.scenario_lines.specs.Number.{more}
-use Rattle.scenario_lines.specs.declared.Parsed.TheVariants.{No, Is}
 use Rattle.vcd.specs.Binary.{is_bit}
 use Rattle.vcd.specs.Read.{digits_ahead, bits_ahead, rc_ahead, signals_ahead, starts}
 use Rattle.vcd.specs.declared.Signals.{Signals}
@@ -26,11 +26,11 @@ no_first [] h = refl
 no_first (b ∷ l) h = absurd (omega arith)
 
 module _ (s : List ℕ) (i v : ℕ) where
-  pub digits_no : i < length s → more v (get_or s i 0) ≡ No → digits_ahead v (drop i s) ≡ v
+  pub digits_no : i < length s → more v (get_or s i 0) ≡ None → digits_ahead v (drop i s) ≡ v
   unfolding digits_ahead
   digits_no h e = rw (drop-cons s i 0, e)
 
-  pub digits_is : (x : ℕ) → i < length s → more v (get_or s i 0) ≡ Is x → digits_ahead v (drop i s) ≡ digits_ahead x (drop (i + 1) s)
+  pub digits_is : (x : ℕ) → i < length s → more v (get_or s i 0) ≡ Some x → digits_ahead v (drop i s) ≡ digits_ahead x (drop (i + 1) s)
   unfolding digits_ahead
   digits_is x h e = rw (add-one, drop-cons s i 0, e)
 

@@ -3,7 +3,7 @@ ghost use Rattle.std.specs.Prelude.{◌-◌, ◌≤◌, ◌≡◌, get_or, drop}
 ghost use Rattle.vcd.specs.Binary.{is_bit};
 ghost use Rattle.vcd.specs.Read.{digits_ahead, bits_ahead, rc_ahead, signals_ahead};
 
-use scenario_lines::{Parsed, number};
+use scenario_lines::number;
 use vcd::Signals;
 
 // The least number that no binary digit can follow.
@@ -39,10 +39,10 @@ pub(crate) fn digits_ahead(s: &[u8]) -> u64
     while i < s.len() {
         let m = number::one_more(v, s[i]);
         match m {
-            Parsed::No => {
+            None => {
                 return v;
             }
-            Parsed::Is(x) => {
+            Some(x) => {
                 v = x;
             }
         }

@@ -10,7 +10,6 @@ use replay::numbers::Stored;
 use replay::reading::Reading;
 use replay::tally::{Tally, Verdict};
 use replay::{lists, numbers, reading, tally};
-use scenario_lines::Parsed;
 use scenario_lines::number::one_more;
 use std::io::{Read, Stdin, Stdout};
 use vcd::Answer;
@@ -210,13 +209,13 @@ fn byte_in(text: &[u8]) -> u64 {
 }
 
 fn three_digits(a: u8, b: u8, c: u8) -> u64 {
-    let Parsed::Is(x) = one_more(0, a) else {
+    let Some(x) = one_more(0, a) else {
         return 256;
     };
-    let Parsed::Is(y) = one_more(x, b) else {
+    let Some(y) = one_more(x, b) else {
         return 256;
     };
-    let Parsed::Is(z) = one_more(y, c) else {
+    let Some(z) = one_more(y, c) else {
         return 256;
     };
     z

@@ -8,6 +8,7 @@ use native.Mathlib.Omega.{arith}
 use borrow.Author.Tests.{ltb-true, ltb-false, eqb-true, not-false}
 use lib.Dec.{eqb, ltb}
 use lib.ListN.{length}
+use Rattle.std.specs.Prelude.{Option, Some, None}
 use Rattle.machine.specs.Words.{bit, unused}
 use Rattle.machine.specs.Lists.{scripts_of}
 use Rattle.machine.specs.Step.{Scripts, Left, answer, settle, step}
@@ -28,8 +29,6 @@ use Rattle.scenario_lines.specs.Number.{plainly, decimal, fits, number}
 use Rattle.scenario_lines.specs.Judge.{header, equal, clean, fields, first, numbered, kinds, judge}
 use Rattle.scenario_lines.specs.declared.Line.{Line}
 use Rattle.scenario_lines.specs.declared.Line.TheVariants.{Broken, Header, BadNumber, Lock as LockLine, Pred as PredLine, Op, Run, NoKind}
-use Rattle.scenario_lines.specs.declared.Parsed.{Parsed}
-use Rattle.scenario_lines.specs.declared.Parsed.TheVariants.{No, Is}
 use Rattle.scenario.specs.Names.{wrong_line}
 use Rattle.scenario.specs.Scenario.{Scenario, taken}
 use Rattle.scenario.specs.Refused.{stage_no, at, refusal_of}
@@ -68,9 +67,9 @@ run_fits S (i ∷ more) L l h small =
     (rw exc (bit_small left.lock.exc), omega (arith, rc, after.counts.most), run_fits S more left.lock left.recs after still)
 
 -- ---- the top of a lock line
-abbrev Below : Parsed → Type 0
-Below No = Unit {0}
-Below (Is v) = v < 2 ^ 64
+abbrev Below : Option ℕ → Type 0
+Below None = Unit {0}
+Below (Some v) = v < 2 ^ 64
 
 abbrev TopBelow : Line → Type 0
 TopBelow Broken = Unit {0}
@@ -82,7 +81,7 @@ TopBelow (Op t code value) = Unit {0}
 TopBelow (Run t times) = Unit {0}
 TopBelow NoKind = Unit {0}
 
-fits_below : (t : Bool) (v : ℕ) → ltb v (2 ^ 64) ≡ t → Below (cond t (Is v) No)
+fits_below : (t : Bool) (v : ℕ) → ltb v (2 ^ 64) ≡ t → Below (cond t (Some v) None)
 fits_below true v e = ltb-true v (2 ^ 64) e
 fits_below false v e = tt
 
@@ -90,7 +89,7 @@ number_below : (l : List ℕ) → Below (number l)
 unfolding number
 number_below l = by_form (plainly l)
   where
-    by_form : (t : Bool) → Below (cond t (fits (decimal 0 l)) No)
+    by_form : (t : Bool) → Below (cond t (fits (decimal 0 l)) None)
     by_form true = fits_below (ltb (decimal 0 l) (2 ^ 64)) (decimal 0 l) refl
     by_form false = tt
 
@@ -107,11 +106,11 @@ kinds_below k a b c h =
     (either_below (equal k (bytes "run")) _ _ (either_below (ltb a 256 && (ltb 0 b && (ltb b 65536 && eqb c 0))) _ _ tt tt)
     tt)))
 
-numbered_below : (k : List ℕ) (x y z : Parsed) → Below x → TopBelow (numbered k x y z)
-numbered_below k No y z h = tt
-numbered_below k (Is a) No z h = tt
-numbered_below k (Is a) (Is b) No h = tt
-numbered_below k (Is a) (Is b) (Is c) h = kinds_below k a b c h
+numbered_below : (k : List ℕ) (x y z : Option ℕ) → Below x → TopBelow (numbered k x y z)
+numbered_below k None y z h = tt
+numbered_below k (Some a) None z h = tt
+numbered_below k (Some a) (Some b) None h = tt
+numbered_below k (Some a) (Some b) (Some c) h = kinds_below k a b c h
 
 first_below : (l : List (List ℕ)) → TopBelow (first l)
 first_below [] = tt

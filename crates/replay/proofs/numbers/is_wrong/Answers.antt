@@ -2,12 +2,12 @@
 use Rattle.replay.specs.Numbers.{on_purpose}
 use Rattle.replay.proofs.numbers.is_wrong.Goals as goal
 
-pub returns-in-Is : goal.returns-in-Is
+pub returns-in-Some : goal.returns-in-Some
 unfolding on_purpose
-returns-in-Is c =
-    simp (← c.find.ensures, ← c.part.ensures, ← c.parse_number-what.ensures, c.in-Is.is)
+returns-in-Some c =
+    simp (← c.find.ensures, ← c.part.ensures, ← c.parse_number-what.ensures, c.in-Some.is)
 
-pub returns-in-No : goal.returns-in-No
+pub returns-in-None : goal.returns-in-None
 unfolding on_purpose
-returns-in-No c =
-    simp (← c.find.ensures, ← c.part.ensures, ← c.parse_number-what.ensures, c.in-No.is)
+returns-in-None c =
+    simp (← c.find.ensures, ← c.part.ensures, ← c.parse_number-what.ensures, c.in-None.is)

@@ -8,10 +8,10 @@ use Rattle.vcd_code.proofs.ahead.digits_ahead.Goals as goal
 pub loop-i-init : goal.loop-i-init
 loop-i-init c = (omega arith, refl)
 
-pub returns-in-No : goal.returns-in-No
-returns-in-No c =
+pub returns-in-None : goal.returns-in-None
+returns-in-None c =
     let l = c.loop-i in
-    sym (l.invariant.1 ∙ digits_no c.args.s.now l.i l.v (omega arith) (sym c.one_more-m.ensures ∙ c.in-No.is))
+    sym (l.invariant.1 ∙ digits_no c.args.s.now l.i l.v (omega arith) (sym c.one_more-m.ensures ∙ c.in-None.is))
 
 pub returns : goal.returns
 returns c =
@@ -21,4 +21,4 @@ returns c =
 pub loop-i-preserved : goal.loop-i-preserved
 loop-i-preserved c =
     let l = c.loop-i in
-    (omega arith, l.invariant.1 ∙ digits_is c.args.s.now l.i l.v c.in-Is.x (omega arith) (sym c.one_more-m.ensures ∙ c.in-Is.is))
+    (omega arith, l.invariant.1 ∙ digits_is c.args.s.now l.i l.v c.in-Some.x (omega arith) (sym c.one_more-m.ensures ∙ c.in-Some.is))

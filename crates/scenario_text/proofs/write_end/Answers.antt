@@ -1,6 +1,0 @@
--- `write_end` meets its contract: two stores, one behind the other. Assumes nothing.
-use Rattle.scenario_text.proofs.Stores.{both}
-use Rattle.scenario_text.proofs.write_end.Goals as goal
-
-pub returns : goal.returns
-returns c = both c.write_two-n.ensures c.write_last.ensures
