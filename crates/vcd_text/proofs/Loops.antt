@@ -1,5 +1,7 @@
--- One turn of the loops that count the digits of a number in binary, and store them. Assumes nothing.
-use Rattle.std.proofs.Common.{◌≡◌, ℕ, ◌+◌, ◌/◌, ◌%◌, ◌^◌, ◌<◌, ◌≤◌, List, length, set, ap}
+-- How many digits a number has in binary, and one turn of the loop that stores them. Assumes nothing.
+use Rattle.std.proofs.Common.{◌≡◌, ℕ, zero, suc, ◌*◌, arith, ◌+◌, ◌/◌, ◌%◌, ◌^◌, ◌<◌, ◌≤◌, List, length, set, ap}
+use Rattle.std.proofs.Math.Nat.{pow-succ'}
+use Rattle.std.proofs.Math.Pow.{pow_pos}
 use lib.Seq.{sets}
 use Rattle.scenario_text.proofs.Digits.{length_last}
 use Rattle.scenario_text.proofs.Stores.{last_stored}
@@ -11,6 +13,14 @@ length_more v h g = length_last (binary (v / 2)) (48 + v % 2) (bits_more v h g)
 
 pub length_one : (v : ℕ) → v < 2 → length (binary v) ≡ 1
 length_one v h = ap length (bits_one v h)
+
+-- one digit more than the power of two that it reaches
+pub length_at : (j v : ℕ) → 2 ^ j ≤ v → v < 2 * 2 ^ j → v < 2 ^ 64 → length (binary v) ≡ j + 1
+length_at zero v h g f = length_one v (omega arith)
+length_at (suc j) v h g f =
+    let more : 2 ^ suc j ≡ 2 * 2 ^ j = pow-succ' 2 j in
+    let some : 1 ≤ 2 ^ j = pow_pos j in
+    omega (arith, length_more v (omega arith) f, length_at j (v / 2) (omega arith) (omega arith) (omega arith))
 
 -- a digit, and the digits before it
 pub bit_stored : (l : List ℕ) (at p w d : ℕ) → 2 ≤ w → w < 2 ^ 64 → p ≡ at + length (binary (w / 2)) → d ≡ 48 + w % 2

@@ -9,7 +9,7 @@ ghost use Rattle.scenario_text.specs.Number.{text};
 ghost use Rattle.scenario_text.specs.Put.{Put, stored, place_after};
 ghost use Rattle.vcd.specs.Binary.{binary};
 ghost use Rattle.vcd.specs.Wave.{counted, close};
-ghost use Rattle.vcd.specs.Blocks.{time_line, exc_line, rc_line, front, opening, dump, same, changed, change, time_bytes, changed_bytes, change_bytes, front_bytes};
+ghost use Rattle.vcd.specs.Blocks.{time_line, exc_line, rc_line, front, opening, dump, changed, change, time_bytes, changed_bytes, change_bytes, front_bytes};
 
 use vcd::{Signals, Wave};
 
@@ -22,31 +22,15 @@ pub const CHANGE: usize = 93;
 
 pub const FRONT: usize = 215;
 
-pub fn same(s: Signals, x: Signals) -> bool
-    ensures { result ≡ same s x }
-{
-    if s.exc != x.exc {
-        return false;
-    }
-    s.rc == x.rc
-}
-
 // After one more row, with the signals x. Its time is taken as written only where it changed a signal.
 pub fn counted(p: Wave, x: Signals) -> Wave
     ensures { result ≡ counted p x }
 {
-    let time = std::num::wrapping_add_u64(p.time, 1);
-    let s = p.signals;
-    if same(s, x) {
-        return Wave {
-            time,
-            written: p.written,
-            signals: x,
-        };
-    }
+    let time = p.time.wrapping_add(1);
+    let written = if p.signals == x { p.written } else { time };
     Wave {
         time,
-        written: time,
+        written,
         signals: x,
     }
 }
@@ -88,7 +72,7 @@ pub fn put_change(out: &mut [u8], at: usize, t: u64, s: Signals, x: Signals) -> 
     ensures value { result ≡ place_after change_bytes out.old at (change t s x) }
     ensures out_after { out.new ≡ stored change_bytes out.old at (change t s x) }
 {
-    if same(s, x) {
+    if s == x {
         return at;
     }
     if scenario_text::has_room(out.len(), at, CHANGE) {
@@ -114,20 +98,17 @@ pub fn put_close(out: &mut [u8], at: usize, p: Wave) -> usize
 fn bits_of(v: u64) -> usize
     ensures { result ≡ length (binary v) }
 {
-    let mut n = 1;
-    let mut left = v;
-    while 2 <= left {
-        left = left / 2;
-        n += 1;
+    if v == 0 {
+        return 1;
     }
-    n
+    v.ilog2() as usize + 1
 }
 
 fn bit(d: u64) -> u8
     requires { d < 2 }
     ensures { result ≡ 48 + d }
 {
-    48 + d as u8
+    b'0' + d as u8
 }
 
 // The digits are stored from the last to the first, each in its place, so that none is copied.
