@@ -64,7 +64,7 @@ module _ (t : ℕ) (s : Signals) (l : List ℕ) where
     pub long : k.len ≡ length (time_line k.time ++ changed s k.signals)
     pub wired : Wired s → Wired k.signals
 
-  stands : (k : Block) → block_at t s l ≡ Some k → Stands k
+  pub stands : (k : Block) → block_at t s l ≡ Some k → Stands k
   unfolding block_at
   stands k h =
       let u = time_ahead l in
