@@ -68,6 +68,7 @@ pub fn put_changed(out: &mut [u8], at: usize, s: Signals, x: Signals) -> usize
 }
 
 // The row at time t, after which the signals are x; nothing where they are as before.
+#[tactic(auto, unfolding(vcd::specs::Blocks::change))]
 pub fn put_change(out: &mut [u8], at: usize, t: u64, s: Signals, x: Signals) -> usize
     ensures value { result ≡ place_after change_bytes out.old at (change t s x) }
     ensures out_after { out.new ≡ stored change_bytes out.old at (change t s x) }
@@ -82,6 +83,7 @@ pub fn put_change(out: &mut [u8], at: usize, t: u64, s: Signals, x: Signals) -> 
 }
 
 // The last time, where it is not written yet.
+#[tactic(auto, unfolding(vcd::specs::Wave::close))]
 pub fn put_close(out: &mut [u8], at: usize, p: Wave) -> usize
     ensures value { result ≡ place_after time_bytes out.old at (close p) }
     ensures out_after { out.new ≡ stored time_bytes out.old at (close p) }
@@ -116,16 +118,13 @@ fn write_binary(out: &mut [u8], at: usize, v: u64) -> usize
     requires { at + 64 ≤ length out.old }
     ensures { Put out.old at (binary v) 64 result out.new }
 {
-    let end = at + bits_of(v);
-    let mut p = end;
+    let n = bits_of(v);
     let mut w = v;
-    while 2 <= w {
-        p -= 1;
-        out[p] = bit(w % 2);
-        w = w / 2;
+    for k in 0..n {
+        out[at + n - 1 - k] = bit(w % 2);
+        w /= 2;
     }
-    out[at] = bit(w);
-    end
+    at + n
 }
 
 fn write_bytes(out: &mut [u8], at: usize, s: &[u8]) -> usize
@@ -151,6 +150,7 @@ fn write_time(out: &mut [u8], at: usize, t: u64) -> usize
     write_bytes(out, m, b"\n")
 }
 
+#[tactic(auto, unfolding(vcd::specs::Blocks::exc_line))]
 fn write_exc(out: &mut [u8], at: usize, v: u64) -> usize
     requires { at + 3 ≤ length out.old }
     ensures { Put out.old at (exc_line v) 3 result out.new }
@@ -227,6 +227,7 @@ fn write_dump(out: &mut [u8], at: usize, s: Signals) -> usize
     write_both(out, n, s)
 }
 
+#[tactic(auto, unfolding(vcd::specs::Blocks::opening))]
 fn write_opening(out: &mut [u8], at: usize) -> usize
     requires { at + 126 ≤ length out.old }
     ensures { Put out.old at opening 126 result out.new }
