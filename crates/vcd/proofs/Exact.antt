@@ -140,7 +140,7 @@ no_room_lem : (f : Option (List Signals)) (room : ℕ) → read_as f room ≡ Er
 no_room_lem None room h = cc
 no_room_lem (Some xs) room h = (xs, refl, leb-false (2 * length xs) room (room_by (leb (2 * length xs) room) (length xs - 1) h))
 
-words_length : (xs : List Signals) → length (words xs) ≡ 2 * length xs
+pub words_length : (xs : List Signals) → length (words xs) ≡ 2 * length xs
 unfolding words
 words_length [] = refl
 words_length (x ∷ xs) = omega (arith, words_length xs)

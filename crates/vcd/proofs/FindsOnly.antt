@@ -12,11 +12,12 @@ use Rattle.vcd.specs.Wave.{after, changes, close, waveform}
 use Rattle.vcd.specs.Trace.{most_rows, Wired, Lendable}
 use Rattle.std.specs.Prelude.{Option, None, Some, option_and_then}
 use Rattle.std.proofs.lemmas.Option.{cond_some}
+use Rattle.std.proofs.lemmas.Bool.{and_parts}
 use Rattle.vcd.specs.Read.{starts, time_ahead, signals_ahead, block_at, behind, rows_found, dump_at, first_ahead, found}
 use Rattle.vcd.specs.Exact.{FindsOnly}
 use Rattle.vcd.specs.declared.Signals.{Signals}
 use Rattle.vcd.specs.declared.Block.{Block}
-use Rattle.vcd.proofs.WiredAhead.{both_left, both_right, wired_ahead}
+use Rattle.vcd.proofs.WiredAhead.{wired_ahead}
 use Rattle.vcd.proofs.Taken.{starts_with, Rows, rows_to, taken}
 
 -- ---- something is found
@@ -49,13 +50,14 @@ module _ (t : ℕ) (s : Signals) (l : List ℕ) where
   good_by u x h =
       let block = time_line u ++ changed s x in
       let c = not (same s x) || leb (length l) (length block) in
-      let h₁ = both_right (starts block l) (ltb t u && (leb u most_rows && c)) h in
-      let h₂ = both_right (ltb t u) (leb u most_rows && c) h₁ in
+      let (begins, h₁) = and_parts (starts block l) (ltb t u && (leb u most_rows && c)) h in
+      let (early, h₂) = and_parts (ltb t u) (leb u most_rows && c) h₁ in
+      let (high, last) = and_parts (leb u most_rows) c h₂ in
       record {
-        begins = both_left (starts block l) (ltb t u && (leb u most_rows && c)) h;
-        early = ltb-true t u (both_left (ltb t u) (leb u most_rows && c) h₁);
-        high = leb-true u most_rows (both_left (leb u most_rows) c h₂);
-        last = last_by (same s x) (length l) (length block) (both_right (leb u most_rows) c h₂);
+        begins = begins;
+        early = ltb-true t u early;
+        high = leb-true u most_rows high;
+        last = last_by (same s x) (length l) (length block) last;
       }
 
   -- what is known of a block that stands there

@@ -1,7 +1,7 @@
 -- The rows of a file, a block at a time: how many blocks are allowed does not matter as long as they are more than the bytes, and what is read is
 -- that of the first block and of what is behind it. Assumes nothing.
 use Prim.Native.Nat.{ℕ, zero, suc, ◌+◌, ◌-◌, ◌*◌, ◌/◌, ◌<◌, ◌≤◌}
-use mathlib.Core.Bool.{Bool, true, false, ◌&&◌, cond, false≢true}
+use mathlib.Core.Bool.{Bool, true, false, cond, false≢true}
 use mathlib.Core.Path.{◌≡◌, refl, ap}
 use mathlib.Core.List.{List, [], ◌∷◌, ◌++◌}
 use native.Mathlib.Omega.{arith}
@@ -9,6 +9,7 @@ use borrow.Author.Tests.{leb-true, le-leb, lt-leb}
 use lib.Dec.{eqb, leb}
 use lib.ListN.{length, drop, replicate, length-append, length-replicate, length-drop}
 use Rattle.std.specs.Prelude.{Option, None, Some, option_and_then, Result, Ok, Err, IsOk}
+use Rattle.std.proofs.lemmas.Bool.{and_parts}
 use Rattle.vcd.specs.Blocks.{time_line}
 use Rattle.vcd.specs.Read.{starts, block_at, behind, rows_found, read_as}
 use Rattle.vcd.specs.declared.Signals.{Signals}
@@ -18,15 +19,11 @@ use Rattle.vcd.specs.declared.Refusal.TheVariants.{NoRoom, NoWave}
 use Rattle.vcd.proofs.FindsOnly.{stands}
 
 -- ---- a block that stands there
-both_right : (t u : Bool) → (t && u) ≡ true → u ≡ true
-both_right true u h = h
-both_right false u h = absurd (false≢true h)
-
 pub starts_long : (s l : List ℕ) → starts s l ≡ true → length s ≤ length l
 unfolding starts
 starts_long [] l h = omega arith
 starts_long (a ∷ s) [] h = absurd (false≢true h)
-starts_long (a ∷ s) (b ∷ l) h = omega (arith, starts_long s l (both_right (eqb a b) (starts s l) h))
+starts_long (a ∷ s) (b ∷ l) h = omega (arith, starts_long s l (and_parts (eqb a b) (starts s l) h).1)
 
 module _ (t : ℕ) (s : Signals) (l : List ℕ) (k : Block) (is : block_at t s l ≡ Some k) where
   pub some_bytes : 1 ≤ k.len

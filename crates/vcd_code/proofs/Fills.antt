@@ -15,11 +15,6 @@ unfolding words
 words_append [] ys = refl
 words_append (x ∷ xs) ys = rw (words_append xs ys)
 
-pub words_length : (xs : List Signals) → length (words xs) ≡ 2 * length xs
-unfolding words
-words_length [] = refl
-words_length (x ∷ xs) = omega (arith, words_length xs)
-
 -- ---- the loop over rows that are alike
 still_length : (n : ℕ) (s : Signals) → length (words (replicate n s)) ≡ 2 * n
 unfolding words

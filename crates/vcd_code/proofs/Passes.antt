@@ -18,7 +18,8 @@ use Rattle.vcd.specs.declared.Signals.{Signals}
 use Rattle.vcd.specs.declared.Refusal.{Refusal}
 use Rattle.vcd.specs.declared.Refusal.TheVariants.{NoRoom, NoWave}
 use Rattle.vcd.specs.declared.Block.{Block}
-use Rattle.vcd_code.proofs.Fills.{words_append, words_length}
+use Rattle.vcd.proofs.Exact.{words_length}
+use Rattle.vcd_code.proofs.Fills.{words_append}
 use Rattle.vcd_code.proofs.BlocksOn.{starts_long, fits, later, some_bytes, rows_on, rows_with, bad_block, no_block, good_block, read_from, from_first, from_on, from_room, from_no_room, taken_room}
 
 -- ---- whether something is left

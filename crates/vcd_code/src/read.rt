@@ -16,7 +16,8 @@ const MOST: u64 = 3074457345618258602;
 const DUMP: usize = 139;
 
 // The signals of time 0 and after every row go to the start of `out`, exc and rc in turn, and words behind them stay; the answer is the number
-// of rows. Refused where the file is not the waveform of any signals; then where its signals have no room.
+// of rows. They are words and no `Signals`, since `Reader41` and `ReaderTakes` speak of words. Refused where the file is not the waveform of any
+// signals; then where its signals have no room.
 pub fn read(file: &[u8], out: &mut [u64]) -> Result<u64, Refusal>
     ensures value { result ≡ read file.now (length out.old) }
     ensures out_after { out.new ≡ read_in file.now out.old }

@@ -15,13 +15,12 @@ const EXC: usize = 4;
 
 const RC: usize = 5;
 
-// The trace has six words a row; exc and rc are the signals before its first. What is written stands at the start of `out`, and bytes behind it
+// The trace has six words a row; s are the signals before its first. What is written stands at the start of `out`, and bytes behind it
 // stay; the answer is how many there are. Refused where the trace has no whole rows, or an exc is above 1; then where the text has no room.
-pub fn write(trace: &[u64], exc: u64, rc: u64, out: &mut [u8]) -> Result<usize, Refusal>
-    ensures value { result ≡ written trace.now (record { exc = exc; rc = rc }) (length out.old) }
-    ensures out_after { out.new ≡ written_in trace.now (record { exc = exc; rc = rc }) out.old }
+pub fn write(trace: &[u64], s: Signals, out: &mut [u8]) -> Result<usize, Refusal>
+    ensures value { result ≡ written trace.now s (length out.old) }
+    ensures out_after { out.new ≡ written_in trace.now s out.old }
 {
-    let s = Signals { exc, rc };
     if is_wrong(trace, s) {
         return Err(Refusal::NoTrace);
     }
@@ -50,6 +49,7 @@ fn any_high(trace: &[u64]) -> bool
 }
 
 // ---- the walk: where `storing`, the text is stored at the start of `out`; otherwise nothing is. Either way it is told where it ends, if it has room.
+// A flag and no closure, since `pass` alone asks it.
 
 fn walk(trace: &[u64], s: Signals, storing: bool, out: &mut [u8]) -> Result<usize, Refusal>
     requires { storing ≡ true → length (file_of trace.now s) ≤ length out.old }
@@ -87,7 +87,7 @@ fn walk_rows(
     pass_close(p, at, storing, out)
 }
 
-// Of the row whose words start at p.
+// Of the row whose words start at p. `vcd_rows` has the same: one for both would be public, and no public function requires anything.
 fn signals_at(trace: &[u64], p: usize) -> Signals
     requires { p + 6 ≤ length trace.now }
     ensures { result ≡ record { exc = get_or trace.now (p + 4) 0; rc = get_or trace.now (p + 5) 0 } }

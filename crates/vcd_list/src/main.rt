@@ -13,7 +13,7 @@ use replay::{lists, numbers, reading, tally};
 use scenario_lines::Parsed;
 use scenario_lines::number::one_more;
 use std::io::{Read, Stdin, Stdout};
-use vcd::Refusal;
+use vcd::{Refusal, Signals};
 use vcd_code::{read, write};
 
 // Room for the numbers of a line, and for its bytes. The longest of the list have 613 and 2,924.
@@ -29,6 +29,7 @@ const WORD_BEFORE: u64 = 11936128518282651045;
 // How many numbers stand before the words: what, call, room, number, n, exc, rc.
 const FIELDS: usize = 7;
 
+// The list's own numbers of the calls: an enum of them would be made only to be matched once.
 const WRITE: u64 = 1;
 
 const READ: u64 = 2;
@@ -140,8 +141,11 @@ fn writes(line: &[u64], bytes: &[u8]) -> bool {
 }
 
 fn writes_into(line: &[u64], bytes: &[u8], out: &mut [u8]) -> bool {
-    let trace = words_of(line);
-    let answer = write::write(trace, lists::word(line, 5), lists::word(line, 6), out);
+    let s = Signals {
+        exc: lists::word(line, 5),
+        rc: lists::word(line, 6),
+    };
+    let answer = write::write(words_of(line), s, out);
     is_told(line, answer.map(|n| n as u64)) && lists::is_front(out, bytes, BYTE_BEFORE)
 }
 

@@ -54,7 +54,7 @@ fn write_rows(wave: Wave, rows: &[u64], n: usize, out: &mut [u8], at: usize) -> 
     Left { wave: w, at: p }
 }
 
-// Of the row whose words start at p.
+// Of the row whose words start at p. `vcd_code` has the same: one for both would be public, and no public function requires anything.
 fn signals_at(rows: &[u64], p: usize) -> Signals
     requires { p + 6 ≤ length rows.now }
     ensures { result ≡ signals_at rows.now p }

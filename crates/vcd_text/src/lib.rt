@@ -96,7 +96,8 @@ pub fn put_close(out: &mut [u8], at: usize, p: Wave) -> usize
 
 // ---- where there is room
 
-// How many digits v has in binary.
+// How many digits v has in binary. `scenario_text` has the same of decimal digits: one for both bases would be public, and would have to require
+// a base above 1, and no public function requires anything.
 fn bits_of(v: u64) -> usize
     ensures { result ≡ length (binary v) }
 {
