@@ -6,8 +6,7 @@ ghost use Rattle.std.specs.Prelude.{◌≡◌, length};
 
 use std::io::{ErrorKind, Read, Stderr, Stdin, Stdout};
 use std::process::ExitCode;
-use vcd::{Answer, Signals};
-use vcd_code::NO_ROOM;
+use vcd::{Refusal, Signals};
 
 // So many bytes of text are written at once; behind them the list has room for a line.
 const FULL: usize = 50000;
@@ -120,28 +119,29 @@ fn read_file(mut input: Stdin, file: &mut [u8], chunk: &mut [u8]) -> Got {
     }
 }
 
-fn read_signals(file: &[u8], too_large: bool, signals: &mut [u64]) -> Answer {
+fn read_signals(file: &[u8], too_large: bool, signals: &mut [u64]) -> Result<u64, Refusal> {
     if too_large {
-        return Answer {
-            refused: NO_ROOM,
-            n: 0,
-        };
+        return Err(Refusal::NoRoom);
     }
     vcd_code::read::read(file, signals)
 }
 
-fn print(to: Outputs, answer: Answer, signals: &[u64], out: &mut [u8]) -> Written {
-    if answer.refused != 0 {
-        let n = scenario_text::put_refusal(out, 0, answer.refused, 0);
-        let text = program_chunks::front(out, n);
-        // whoever started it makes words of this, as of what the other programs tell
-        let written = write(to, text);
-        if is_whole(written) {
-            let _ = to.err.write_all(text);
-        }
-        return written;
+fn print(to: Outputs, answer: Result<u64, Refusal>, signals: &[u64], out: &mut [u8]) -> Written {
+    match answer {
+        Ok(rows) => print_lines(to, signals, rows, out),
+        Err(why) => print_refusal(to, why, out),
     }
-    print_lines(to, signals, answer.n, out)
+}
+
+fn print_refusal(to: Outputs, why: Refusal, out: &mut [u8]) -> Written {
+    let n = scenario_text::put_refusal(out, 0, u64::from(why), 0);
+    let text = program_chunks::front(out, n);
+    // whoever started it makes words of this, as of what the other programs tell
+    let written = write(to, text);
+    if is_whole(written) {
+        let _ = to.err.write_all(text);
+    }
+    written
 }
 
 fn print_lines(to: Outputs, signals: &[u64], rows: u64, out: &mut [u8]) -> Written {

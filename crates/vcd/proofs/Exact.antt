@@ -1,23 +1,24 @@
 -- The reader takes exactly what the writer writes, and gives its signals back; every number is given exactly where it is due. Assumes nothing.
 use Prim.Native.Nat.{ℕ, suc, ◌+◌, ◌*◌, ◌-◌, ◌<◌, ◌≤◌}
-use mathlib.Core.Bool.{Bool, true, false, cond, true≢false, false≢true}
-use mathlib.Core.Logic.{◌≢◌}
+use mathlib.Core.Bool.{Bool, true, false, cond}
 use mathlib.Core.Path.{◌≡◌, refl, sym, ap, ◌∙◌}
 use mathlib.Core.List.{List, [], ◌∷◌, ◌++◌}
 use native.Mathlib.Omega.{arith}
-use borrow.Author.Tests.{leb-true, leb-false, le-leb, lt-leb, eqb-true, eqb-false, ne_eqb}
-use lib.Dec.{eqb, leb}
+use borrow.Author.Tests.{leb-true, leb-false, le-leb, lt-leb}
+use lib.Dec.{leb}
 use lib.ListN.{length, take, drop}
 use lib.Seq.{sets, sets-eq, take_at, drop_at}
 use Rattle.vcd.specs.Wave.{waveform}
 use Rattle.vcd.specs.Trace.{signals_in, Lendable, words}
-use Rattle.vcd.specs.Write.{no_room, no_trace, done, refused_by, wrong, file_of, written, written_in}
-use Rattle.vcd.specs.Read.{Found, None, Some, found, read_as, read, read_in}
-use Rattle.vcd.specs.Exact.{Different, WrittenIsRead, Writer43, Writer41, WriterTakes, Reader42, TooMany, Reader41, ReaderTakes, ReaderOnly, RefusedWriter, RefusedReader, BytesBehind}
+use Rattle.std.specs.Prelude.{◌↔◌, Option, None, Some, Result, Ok, Err, MatchResult}
+use Rattle.vcd.specs.Write.{wrong, file_of, written, written_in}
+use Rattle.vcd.specs.Read.{found, read_as, read, read_in}
+use Rattle.vcd.specs.Exact.{Different, Numbers, NumbersDiffer, WrittenIsRead, Writer43, Writer41, WriterTakes, Reader42, TooMany, Reader41, ReaderTakes, ReaderOnly, RefusedWriter, RefusedReader, BytesBehind}
 use Rattle.vcd.specs.declared.Signals.{Signals}
-use Rattle.vcd.specs.declared.Answer.{Answer}
+use Rattle.vcd.specs.declared.Refusal.{Refusal}
+use Rattle.vcd.specs.declared.Refusal.TheVariants.{NoRoom, NoWave, NoTrace}
 use Rattle.vcd.proofs.FindsAll.{finds_all}
-use Rattle.vcd.proofs.FindsOnly.{none_some, some_same, finds_only}
+use Rattle.vcd.proofs.FindsOnly.{finds_only}
 use Rattle.vcd.proofs.Traces.{trace_lendable}
 
 -- ---- a list, stored at the start of another
@@ -32,22 +33,37 @@ stored_first v l n e h = rw (stored v l (omega (arith, e))) (take_at v (drop (le
 stored_behind : (v l : List ℕ) (n : ℕ) → length v ≡ n → n ≤ length l → drop n (sets l 0 v) ≡ drop n l
 stored_behind v l n e h = rw (stored v l (omega (arith, e)), e) (drop_at v (drop n l) n e)
 
--- ---- the writer's answer, for what is wrong, what has room, and the length
-abbrev answer : Bool → Bool → ℕ → Answer
-answer w r n = cond w (refused_by no_trace) (cond r (done n) (refused_by no_room))
+-- ---- the numbers
+pub numbers : Numbers
+numbers = (refl, refl, refl)
 
-by_43 : (w r : Bool) (n : ℕ) → ((answer w r n).refused ≡ 43 → w ≡ true) × (w ≡ true → (answer w r n).refused ≡ 43)
+pub numbers_differ : NumbersDiffer
+numbers_differ NoRoom NoRoom e = refl
+numbers_differ NoRoom NoWave e = absurd (omega (arith, e))
+numbers_differ NoRoom NoTrace e = absurd (omega (arith, e))
+numbers_differ NoWave NoRoom e = absurd (omega (arith, e))
+numbers_differ NoWave NoWave e = refl
+numbers_differ NoWave NoTrace e = absurd (omega (arith, e))
+numbers_differ NoTrace NoRoom e = absurd (omega (arith, e))
+numbers_differ NoTrace NoWave e = absurd (omega (arith, e))
+numbers_differ NoTrace NoTrace e = refl
+
+-- ---- the writer's answer, for what is wrong, what has room, and the length
+abbrev answer : Bool → Bool → ℕ → Result ℕ Refusal
+answer w r n = cond w (Err NoTrace) (cond r (Ok n) (Err NoRoom))
+
+by_43 : (w r : Bool) (n : ℕ) → (answer w r n ≡ Err NoTrace) ↔ (w ≡ true)
 by_43 true r n = (λ h. refl, λ h. refl)
-by_43 false true n = (λ h. absurd (omega (arith, h)), λ h. absurd (false≢true h))
-by_43 false false n = (λ h. absurd (omega (arith, h)), λ h. absurd (false≢true h))
+by_43 false true n = (λ h. cc, λ h. cc)
+by_43 false false n = (λ h. cc, λ h. cc)
 
 pub writer_43 : Writer43
 unfolding written
 writer_43 trace s room = by_43 (wrong trace s) (leb (length (file_of trace s)) room) (length (file_of trace s))
 
-by_41 : (w r : Bool) (n : ℕ) → ((answer w r n).refused ≡ 41 → (w ≡ false) × (r ≡ false)) × (w ≡ false → r ≡ false → (answer w r n).refused ≡ 41)
-by_41 true r n = (λ h. absurd (omega (arith, h)), λ e f. absurd (true≢false e))
-by_41 false true n = (λ h. absurd (omega (arith, h)), λ e f. absurd (true≢false f))
+by_41 : (w r : Bool) (n : ℕ) → (answer w r n ≡ Err NoRoom → (w ≡ false) × (r ≡ false)) × (w ≡ false → r ≡ false → answer w r n ≡ Err NoRoom)
+by_41 true r n = (λ h. cc, λ e f. cc)
+by_41 false true n = (λ h. cc, λ e f. cc)
 by_41 false false n = (λ h. (refl, refl), λ e f. refl)
 
 pub writer_41 : Writer41
@@ -57,80 +73,74 @@ writer_41 trace s room =
     let b = by_41 (wrong trace s) (leb n room) n in
     (λ h. ((b.0 h).0, leb-false n room (b.0 h).1), λ e g. b.1 e (lt-leb n room g))
 
-by_0 : (w r : Bool) (n : ℕ) → (answer w r n).refused ≡ 0 → (w ≡ false) × (r ≡ true) × (answer w r n ≡ done n)
-by_0 true r n h = absurd (omega (arith, h))
-by_0 false true n h = (refl, refl, refl)
-by_0 false false n h = absurd (omega (arith, h))
+by_ok : (w r : Bool) (n m : ℕ) → answer w r n ≡ Ok m → (w ≡ false) × (r ≡ true) × (n ≡ m)
+by_ok true r n m h = cc
+by_ok false true n m h = (refl, refl, cc)
+by_ok false false n m h = cc
 
 -- what was written is the text, and has room
-module _ (trace : List ℕ) (s : Signals) (out : List ℕ) (h : (written trace s (length out)).refused ≡ 0) where
-  taken_by : (wrong trace s ≡ false) × (leb (length (file_of trace s)) (length out) ≡ true) × (written trace s (length out) ≡ done (length (file_of trace s)))
+module _ (trace : List ℕ) (s : Signals) (out : List ℕ) (n : ℕ) (h : written trace s (length out) ≡ Ok n) where
+  taken_by : (wrong trace s ≡ false) × (leb (length (file_of trace s)) (length out) ≡ true) × (length (file_of trace s) ≡ n)
   unfolding written
-  taken_by = by_0 (wrong trace s) (leb (length (file_of trace s)) (length out)) (length (file_of trace s)) h
-
-  has_room : length (file_of trace s) ≤ length out
-  has_room = leb-true (length (file_of trace s)) (length out) taken_by.1
+  taken_by = by_ok (wrong trace s) (leb (length (file_of trace s)) (length out)) (length (file_of trace s)) n h
 
   stored_file : written_in trace s out ≡ sets out 0 (file_of trace s)
   unfolding written_in
   stored_file = rw h
 
-  file_length : length (file_of trace s) ≡ (written trace s (length out)).n
-  file_length = rw taken_by.2
+  room_at : n ≤ length out
+  room_at = rw (← taken_by.2) (leb-true (length (file_of trace s)) (length out) taken_by.1)
 
-  room_at : (written trace s (length out)).n ≤ length out
-  room_at = rw (← file_length) has_room
+  written_file : take n (written_in trace s out) ≡ file_of trace s
+  written_file = rw stored_file (stored_first (file_of trace s) out n taken_by.2 room_at)
 
-  written_file : take (written trace s (length out)).n (written_in trace s out) ≡ file_of trace s
-  written_file = rw stored_file (stored_first (file_of trace s) out (written trace s (length out)).n file_length room_at)
-
-  behind_file : let n = (written trace s (length out)).n in drop n (written_in trace s out) ≡ drop n out
-  behind_file = rw stored_file (stored_behind (file_of trace s) out (written trace s (length out)).n file_length room_at)
+  behind_file : drop n (written_in trace s out) ≡ drop n out
+  behind_file = rw stored_file (stored_behind (file_of trace s) out n taken_by.2 room_at)
 
 pub writer_takes : WriterTakes
 unfolding written
 writer_takes trace s out right room =
-    let is : written trace s (length out) ≡ done (length (file_of trace s)) = rw (right, le-leb (length (file_of trace s)) (length out) room) in
-    (is, ap (λ (a : Answer). take a.n (written_in trace s out)) (sym is) ∙ written_file trace s out (ap (λ (a : Answer). a.refused) is))
+    let is : written trace s (length out) ≡ Ok (length (file_of trace s)) = rw (right, le-leb (length (file_of trace s)) (length out) room) in
+    (is, written_file trace s out (length (file_of trace s)) is)
 
 pub refused_writer : RefusedWriter
 unfolding written_in
-refused_writer trace s out h = rw (ne_eqb (written trace s (length out)).refused 0 h)
+refused_writer trace s out why h = rw h
 
-behind_by : (t : Bool) (trace : List ℕ) (s : Signals) (out : List ℕ) → eqb (written trace s (length out)).refused 0 ≡ t
-    → let n = (written trace s (length out)).n in drop n (written_in trace s out) ≡ drop n out
-behind_by true trace s out e = behind_file trace s out (eqb-true (written trace s (length out)).refused 0 e)
-behind_by false trace s out e = ap (drop (written trace s (length out)).n) (refused_writer trace s out (eqb-false (written trace s (length out)).refused 0 e))
+behind_by : (r : Result ℕ Refusal) (trace : List ℕ) (s : Signals) (out : List ℕ) → written trace s (length out) ≡ r
+    → MatchResult r (λ n. drop n (written_in trace s out) ≡ drop n out) (λ why. written_in trace s out ≡ out)
+behind_by (Ok n) trace s out e = behind_file trace s out n e
+behind_by (Err why) trace s out e = refused_writer trace s out why e
 
 pub bytes_behind : BytesBehind
-bytes_behind trace s out = behind_by (eqb (written trace s (length out)).refused 0) trace s out refl
+bytes_behind trace s out = behind_by (written trace s (length out)) trace s out refl
 
 -- ---- the reader's answer
 pub refused_reader : RefusedReader
 unfolding read_in
-refused_reader file out h = rw (ne_eqb (read file (length out)).refused 0 h)
+refused_reader file out why h = rw h
 
-some_by : (t : Bool) (n : ℕ) → (cond t (done n) (refused_by no_room)).refused ≢ 42
-some_by true n h = omega (arith, h)
-some_by false n h = omega (arith, h)
+some_by : (t : Bool) (n : ℕ) → cond t (Ok n) (Err NoRoom) ≡ Err NoWave → ⊥
+some_by true n h = cc
+some_by false n h = cc
 
-no_wave : (f : Found) (room : ℕ) → (read_as f room).refused ≡ 42 → f ≡ None
+no_wave : (f : Option (List Signals)) (room : ℕ) → read_as f room ≡ Err NoWave → f ≡ None
 no_wave None room h = refl
 no_wave (Some xs) room h = absurd (some_by (leb (2 * length xs) room) (length xs - 1) h)
 
-no_wave_by : (f : Found) (room : ℕ) → ((xs : List Signals) → f ≡ Some xs → ⊥) → (read_as f room).refused ≡ 42
+no_wave_by : (f : Option (List Signals)) (room : ℕ) → ((xs : List Signals) → f ≡ Some xs → ⊥) → read_as f room ≡ Err NoWave
 no_wave_by None room h = refl
 no_wave_by (Some xs) room h = absurd (h xs refl)
 
-room_by : (t : Bool) (n : ℕ) → (cond t (done n) (refused_by no_room)).refused ≡ 41 → t ≡ false
-room_by true n h = absurd (omega (arith, h))
+room_by : (t : Bool) (n : ℕ) → cond t (Ok n) (Err NoRoom) ≡ Err NoRoom → t ≡ false
+room_by true n h = cc
 room_by false n h = refl
 
-no_room_lem : (f : Found) (room : ℕ) → (read_as f room).refused ≡ 41 → (xs : List Signals) × (f ≡ Some xs) × (room < 2 * length xs)
-no_room_lem None room h = absurd (omega (arith, h))
+no_room_lem : (f : Option (List Signals)) (room : ℕ) → read_as f room ≡ Err NoRoom → (xs : List Signals) × (f ≡ Some xs) × (room < 2 * length xs)
+no_room_lem None room h = cc
 no_room_lem (Some xs) room h = (xs, refl, leb-false (2 * length xs) room (room_by (leb (2 * length xs) room) (length xs - 1) h))
 
-words_length : (xs : List Signals) → length (words xs) ≡ 2 * length xs
+pub words_length : (xs : List Signals) → length (words xs) ≡ 2 * length xs
 unfolding words
 words_length [] = refl
 words_length (x ∷ xs) = omega (arith, words_length xs)
@@ -146,13 +156,14 @@ rest_of (x ∷ xs) = xs
 
 pub different : Different
 different s s' xs xs' h h' e =
-    let all : s ∷ xs ≡ s' ∷ xs' = some_same (s ∷ xs) (s' ∷ xs') (sym (finds_all s xs h) ∙ ap found e ∙ finds_all s' xs' h') in
+    let found_both : Some (s ∷ xs) ≡ Some (s' ∷ xs') = sym (finds_all s xs h) ∙ ap found e ∙ finds_all s' xs' h' in
+    let all : s ∷ xs ≡ s' ∷ xs' = cc in
     (ap (first_of s) all, ap rest_of all)
 
 pub reader_42 : Reader42
 unfolding read
 reader_42 file room = (
-  λ h s xs l e. none_some (s ∷ xs) (sym (no_wave (found file) room h) ∙ ap found e ∙ finds_all s xs l),
+  λ h s xs l e. let no : None ≡ Some (s ∷ xs) = sym (no_wave (found file) room h) ∙ ap found e ∙ finds_all s xs l in cc,
   λ none. no_wave_by (found file) room (λ all h. let w = finds_only file all h in none w.0 w.1 w.3 w.4),
 )
 
@@ -170,7 +181,7 @@ reader_41 file room = (
 )
 
 module _ (s : Signals) (xs : List Signals) (into : List ℕ) (h : Lendable s xs) (room : 2 * (length xs + 1) ≤ length into) where
-  reads : read (waveform s xs) (length into) ≡ done (length xs)
+  reads : read (waveform s xs) (length into) ≡ Ok (length xs)
   unfolding read
   reads =
       let e : suc (length xs) - 1 ≡ length xs = omega arith in
@@ -192,30 +203,31 @@ reader_takes s xs into h room =
     )
 
 -- what was taken was found, and has room
-found_by : (f : Found) (room : ℕ) → (read_as f room).refused ≡ 0 → (all : List Signals) × (f ≡ Some all) × (2 * length all ≤ room)
-found_by None room h = absurd (omega (arith, h))
-found_by (Some all) room h = (all, refl, by_room (leb (2 * length all) room) refl h)
+found_by : (f : Option (List Signals)) (room n : ℕ) → read_as f room ≡ Ok n → (all : List Signals) × (f ≡ Some all) × (2 * length all ≤ room)
+found_by None room n h = cc
+found_by (Some all) room n h = (all, refl, by_room (leb (2 * length all) room) refl h)
   where
-    by_room : (t : Bool) → leb (2 * length all) room ≡ t → (cond t (done (length all - 1)) (refused_by no_room)).refused ≡ 0 → 2 * length all ≤ room
+    by_room : (t : Bool) → leb (2 * length all) room ≡ t → cond t (Ok (length all - 1)) (Err NoRoom) ≡ Ok n → 2 * length all ≤ room
     by_room true e h = leb-true (2 * length all) room e
-    by_room false e h = absurd (omega (arith, h))
+    by_room false e h = cc
 
 pub reader_only : ReaderOnly
 unfolding read
-reader_only file into h =
-    let (all, is, room) = found_by (found file) (length into) h in
+reader_only file into n h =
+    let (all, is, room) = found_by (found file) (length into) n h in
     let (s, xs, parts, lendable, text) = finds_only file all is in
-    let r = reader_takes s xs into lendable (omega (arith, room, ap length parts)) in (
+    let r = reader_takes s xs into lendable (omega (arith, room, ap length parts)) in
+    let both : Ok n ≡ Ok (length xs) = sym h ∙ ap (λ (l : List ℕ). read l (length into)) text ∙ r.0 in (
       s,
       xs,
       lendable,
       text,
-      ap (λ (l : List ℕ). (read l (length into)).n) text ∙ ap (λ (a : Answer). a.n) r.0,
+      cc,
       ap (λ (l : List ℕ). take (2 * (length xs + 1)) (read_in l into)) text ∙ r.1,
     )
 
 pub written_is_read : WrittenIsRead
-written_is_read trace s out into few b wide h room =
-    let e = written_file trace s out h in
-    let r = reader_takes s (signals_in trace) into (trace_lendable trace s few b wide (taken_by trace s out h).0) room in
+written_is_read trace s out into few b wide n h room =
+    let e = written_file trace s out n h in
+    let r = reader_takes s (signals_in trace) into (trace_lendable trace s few b wide (taken_by trace s out n h).0) room in
     (e, ap (λ (l : List ℕ). read l (length into)) e ∙ r.0, ap (λ (l : List ℕ). take (2 * (length (signals_in trace) + 1)) (read_in l into)) e ∙ r.1)

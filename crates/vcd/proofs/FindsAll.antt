@@ -13,7 +13,8 @@ use lib.Seq.{drop-append_seam, drop-length}
 use Rattle.vcd.specs.Blocks.{time_line, opening, front, same, changed, change}
 use Rattle.vcd.specs.Wave.{at_first, next, after, changes, close, waveform}
 use Rattle.vcd.specs.Trace.{most_rows, Wired, AllWired}
-use Rattle.vcd.specs.Read.{block_at, Found, None, Some, behind, rows_found, found}
+use Rattle.std.specs.Prelude.{Option, Some, option_and_then}
+use Rattle.vcd.specs.Read.{block_at, behind, rows_found, found}
 use Rattle.vcd.specs.Exact.{FindsAll}
 use Rattle.vcd.specs.declared.Signals.{Signals}
 use Rattle.vcd.specs.declared.Wave.{Wave}
@@ -22,14 +23,14 @@ use Rattle.vcd.proofs.OwnText.{NoLine, both_are, block_of, first_ahead_lem, star
 
 -- ---- a block that is found
 -- what is found where a block stands
-abbrev found_behind : ℕ → ℕ → Signals → List ℕ → Block → Found
+abbrev found_behind : ℕ → ℕ → Signals → List ℕ → Block → Option (List Signals)
 found_behind n t s l k = behind (replicate (k.time - (t + 1)) s ++ (k.signals ∷ [])) (rows_found n k.time k.signals (drop k.len l))
 
-found_by : (n t : ℕ) (s : Signals) (l : List ℕ) (k : Block) → 0 < length l → block_at t s l ≡ k → k.good ≡ true
+found_by : (n t : ℕ) (s : Signals) (l : List ℕ) (k : Block) → 0 < length l → block_at t s l ≡ Some k
     → rows_found (suc n) t s l ≡ found_behind n t s l k
 unfolding rows_found
-found_by n t s [] k some e g = absurd (omega arith)
-found_by n t s (b ∷ l) k some e g = ap (λ (k : Block). cond k.good (found_behind n t s (b ∷ l) k) None) e ∙ rw g
+found_by n t s [] k some e = absurd (omega arith)
+found_by n t s (b ∷ l) k some e = ap (option_and_then (found_behind n t s (b ∷ l))) e
 
 -- a time has bytes
 some_time : (u : ℕ) (l : List ℕ) → 0 < length (time_line u ++ l)
@@ -42,13 +43,13 @@ some_line u = rw append-nil at (some_time u [])
 found_change : (n t u : ℕ) (s x : Signals) (l : List ℕ) → t < u → u ≤ most_rows → Wired x → NoLine l → same s x ≡ false
     → rows_found (suc n) t s (time_line u ++ (changed s x ++ l)) ≡ behind (replicate (u - (t + 1)) s ++ (x ∷ [])) (rows_found n u x l)
 found_change n t u s x l later low w clear h =
-    found_by n t s (time_line u ++ (changed s x ++ l)) (block_of u s x) (some_time u (changed s x ++ l)) (block_changed t u s x l later low w clear h) refl
+    found_by n t s (time_line u ++ (changed s x ++ l)) (block_of u s x) (some_time u (changed s x ++ l)) (block_changed t u s x l later low w clear h)
     ∙ rw (← (append_assoc (time_line u) (changed s x) l), drop-append_seam (time_line u ++ changed s x) l)
 
 found_last : (n t u : ℕ) (s : Signals) → t < u → u ≤ most_rows → Wired s
     → rows_found (suc n) t s (time_line u) ≡ behind (replicate (u - (t + 1)) s ++ (s ∷ [])) (rows_found n u s [])
 found_last n t u s later low w =
-    found_by n t s (time_line u) (record { good = true; time = u; signals = s; len = length (time_line u) }) (some_line u) (block_last s t u later low w) refl
+    found_by n t s (time_line u) (record { time = u; signals = s; len = length (time_line u) }) (some_line u) (block_last s t u later low w)
     ∙ rw (drop-length (time_line u))
 
 -- ---- what stands behind a block

@@ -12,6 +12,7 @@ use lib.Seq.{drop-append_seam}
 use Rattle.scenario_lines.specs.Ascii.{bytes}
 use Rattle.scenario_text.specs.Number.{text}
 use Rattle.vcd.specs.Binary.{is_bit, binary}
+use Rattle.std.specs.Prelude.{Option, None, Some}
 use Rattle.vcd.specs.Blocks.{time_line, exc_line, rc_line, opening, dump, front, same, changed}
 use Rattle.vcd.specs.Trace.{most_rows, Wired}
 use Rattle.vcd.specs.Read.{time_ahead, exc_ahead, behind_exc, rc_ahead, signals_ahead, starts, block_at, first_ahead}
@@ -109,9 +110,12 @@ abbrev needed : ℕ → Signals → Signals → List ℕ → Bool
 needed u s x l = not (same s x) || leb (length l) (length (block_text u s x))
 
 -- the block at l, for a time and signals that were gathered
-abbrev block_with : ℕ → Signals → List ℕ → ℕ → Signals → Block
+abbrev block_with : ℕ → Signals → List ℕ → ℕ → Signals → Option Block
 block_with t s l u x =
-    record { good = starts (block_text u s x) l && (ltb t u && (leb u most_rows && needed u s x l)); time = u; signals = x; len = length (block_text u s x) }
+    cond
+    (starts (block_text u s x) l && (ltb t u && (leb u most_rows && needed u s x l)))
+    (Some (record { time = u; signals = x; len = length (block_text u s x) }))
+    None
 
 block_with_lem : (t : ℕ) (s x : Signals) (u : ℕ) (l : List ℕ) → time_ahead l ≡ u → signals_ahead s (drop (length (time_line u)) l) ≡ x
     → block_at t s l ≡ block_with t s l u x
@@ -120,10 +124,10 @@ block_with_lem t s x u l e f =
     ap (λ (v : ℕ). block_with t s l v (signals_ahead s (drop (length (time_line v)) l))) e ∙ ap (λ (y : Signals). block_with t s l u y) f
 
 abbrev pub block_of : ℕ → Signals → Signals → Block
-block_of u s x = record { good = true; time = u; signals = x; len = length (time_line u ++ changed s x) }
+block_of u s x = record { time = u; signals = x; len = length (time_line u ++ changed s x) }
 
 module _ (t u : ℕ) (s x : Signals) (l : List ℕ) (later : t < u) (low : u ≤ most_rows) (w : Wired x) (clear : NoLine l) where
-  good : needed u s x (time_line u ++ (changed s x ++ l)) ≡ true → block_with t s (time_line u ++ (changed s x ++ l)) u x ≡ block_of u s x
+  good : needed u s x (time_line u ++ (changed s x ++ l)) ≡ true → block_with t s (time_line u ++ (changed s x ++ l)) u x ≡ Some (block_of u s x)
   good h =
       let own : starts (block_text u s x) (time_line u ++ (changed s x ++ l)) ≡ true =
       ap (starts (block_text u s x)) (sym (append_assoc (time_line u) (changed s x) l)) ∙ starts_own (block_text u s x) l in
@@ -132,11 +136,11 @@ module _ (t u : ℕ) (s x : Signals) (l : List ℕ) (later : t < u) (low : u ≤
   found_there : signals_ahead s (drop (length (time_line u)) (time_line u ++ (changed s x ++ l))) ≡ x
   found_there = rw (drop-append_seam (time_line u) (changed s x ++ l)) (signals_ahead_lem s x l w clear)
 
-  block_ahead : needed u s x (time_line u ++ (changed s x ++ l)) ≡ true → block_at t s (time_line u ++ (changed s x ++ l)) ≡ block_of u s x
+  block_ahead : needed u s x (time_line u ++ (changed s x ++ l)) ≡ true → block_at t s (time_line u ++ (changed s x ++ l)) ≡ Some (block_of u s x)
   block_ahead h =
       block_with_lem t s x u (time_line u ++ (changed s x ++ l)) (time_ahead_lem u (changed s x ++ l) (omega arith)) found_there ∙ good h
 
-  pub block_changed : same s x ≡ false → block_at t s (time_line u ++ (changed s x ++ l)) ≡ block_of u s x
+  pub block_changed : same s x ≡ false → block_at t s (time_line u ++ (changed s x ++ l)) ≡ Some (block_of u s x)
   block_changed h = block_ahead (rw h)
 
 -- ---- the last time, without a change
@@ -155,8 +159,8 @@ module _ (s : Signals) where
   needed_last u = rw (append-nil (changed s s), same_own) (le-leb _ _ (le_refl (length (time_line u ++ changed s s))))
 
   pub block_last : (t u : ℕ) → t < u → u ≤ most_rows → Wired s
-      → block_at t s (time_line u) ≡ record { good = true; time = u; signals = s; len = length (time_line u) }
+      → block_at t s (time_line u) ≡ Some (record { time = u; signals = s; len = length (time_line u) })
   block_last t u later low w =
       ap (block_at t s) (sym (rw (append-nil (changed s s)) (alone u)))
       ∙ block_ahead t u s s [] later low w (record { bit = refl; vector = refl }) (needed_last u)
-      ∙ ap (λ (l : List ℕ). record { good = true; time = u; signals = s; len = length l }) (alone u)
+      ∙ ap (λ (l : List ℕ). Some (record { time = u; signals = s; len = length l })) (alone u)

@@ -1,6 +1,6 @@
 -- What a row and the close write, where the signals or the times are the same and where they are not. Assumes nothing.
 use Prim.Native.Nat.{ℕ}
-use mathlib.Core.Bool.{Bool, true, false, cond}
+use mathlib.Core.Bool.{Bool, true, cond}
 use mathlib.Core.Path.{◌≡◌, ap}
 use mathlib.Core.Logic.{◌≢◌}
 use mathlib.Core.List.{List, [], ◌++◌}
@@ -17,10 +17,6 @@ module _ (t : ℕ) (s x : Signals) where
   pub change_none : same s x ≡ true → change t s x ≡ []
   unfolding change
   change_none e = ap change_by e
-
-  pub change_some : same s x ≡ false → change t s x ≡ time_line t ++ changed s x
-  unfolding change
-  change_some e = ap change_by e
 
 pub close_none : (p : Wave) → p.time ≡ p.written → close p ≡ []
 unfolding close

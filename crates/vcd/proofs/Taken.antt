@@ -7,6 +7,7 @@ use native.Mathlib.Omega.{arith}
 use borrow.Author.Tests.{eqb-true, ne_eqb}
 use lib.Dec.{eqb}
 use lib.ListN.{length, drop, replicate, length-append, length-replicate, replicate-append-replicate, drop_of_length-le}
+use Rattle.std.proofs.lemmas.Bool.{and_parts}
 use Rattle.vcd.specs.Blocks.{time_line, same, changed, change}
 use Rattle.vcd.specs.Wave.{next, after, changes, close}
 use Rattle.vcd.specs.Trace.{most_rows, Wired, AllWired}
@@ -16,7 +17,6 @@ use Rattle.vcd.specs.declared.Wave.{Wave}
 use Rattle.vcd.proofs.Laws.{two_pieces, after_both, still_rows}
 use Rattle.vcd.proofs.OwnText.{changed_own}
 use Rattle.vcd.proofs.FindsAll.{is_same}
-use Rattle.vcd.proofs.WiredAhead.{both_left, both_right}
 
 -- what begins with a is a and the rest
 pub starts_with : (a l : List ℕ) → starts a l ≡ true → l ≡ a ++ drop (length a) l
@@ -24,8 +24,9 @@ unfolding starts
 starts_with [] l h = refl
 starts_with (x ∷ a) [] h = absurd (false≢true h)
 starts_with (x ∷ a) (y ∷ l) h =
-    let e : x ≡ y = eqb-true x y (both_left (eqb x y) (starts a l) h) in
-    rw e (ap {B = List ℕ} (λ r. y ∷ r) (starts_with a l (both_right (eqb x y) (starts a l) h)))
+    let (first, others) = and_parts (eqb x y) (starts a l) h in
+    let e : x ≡ y = eqb-true x y first in
+    rw e (ap {B = List ℕ} (λ r. y ∷ r) (starts_with a l others))
 
 -- ---- rows
 -- time t, which is written

@@ -1,25 +1,17 @@
 -- What is gathered ahead is one bit and 64 bits, whatever stands there. Assumes nothing.
 use Prim.Native.Nat.{ℕ, ◌+◌, ◌*◌, ◌-◌, ◌^◌, ◌<◌, ◌≤◌}
-use mathlib.Core.Bool.{Bool, true, false, ◌||◌, ◌&&◌, cond, false≢true}
+use mathlib.Core.Bool.{Bool, true, false, ◌||◌, ◌&&◌, cond}
 use mathlib.Core.Path.{◌≡◌, refl}
 use mathlib.Core.List.{List, [], ◌∷◌}
 use native.Mathlib.Omega.{arith}
 use borrow.Author.Tests.{eqb-true, ltb-true}
 use lib.Dec.{eqb, ltb}
 use lib.ListN.{get_or, drop}
+use Rattle.std.proofs.lemmas.Bool.{and_parts}
 use Rattle.vcd.specs.Binary.{is_bit}
 use Rattle.vcd.specs.Trace.{Wired}
 use Rattle.vcd.specs.Read.{bits_ahead, behind_exc, signals_ahead}
 use Rattle.vcd.specs.declared.Signals.{Signals}
-
--- ---- both of two tests
-pub both_left : (a b : Bool) → (a && b) ≡ true → a ≡ true
-both_left true b h = refl
-both_left false b h = h
-
-pub both_right : (a b : Bool) → (a && b) ≡ true → b ≡ true
-both_right true b h = h
-both_right false b h = absurd (false≢true h)
 
 -- ---- one bit
 bit_by : (t : Bool) (b : ℕ) → eqb b 48 ≡ t → (t || eqb b 49) ≡ true → b - 48 ≤ 1
@@ -36,8 +28,8 @@ exc_by false was b e h = h
 -- ---- 64 bits
 bits_by : (t : Bool) (v b x : ℕ) → (is_bit b && ltb v (2 ^ 63)) ≡ t → v < 2 ^ 64 → (v * 2 + (b - 48) < 2 ^ 64 → x < 2 ^ 64) → cond t x v < 2 ^ 64
 bits_by true v b x e h k =
-    let one : b - 48 ≤ 1 = bit_value b (both_left (is_bit b) (ltb v (2 ^ 63)) e) in
-    k (omega (arith, ltb-true v (2 ^ 63) (both_right (is_bit b) (ltb v (2 ^ 63)) e), one))
+    let one : b - 48 ≤ 1 = bit_value b (and_parts (is_bit b) (ltb v (2 ^ 63)) e).0 in
+    k (omega (arith, ltb-true v (2 ^ 63) (and_parts (is_bit b) (ltb v (2 ^ 63)) e).1, one))
 bits_by false v b x e h k = h
 
 bits_wide : (v : ℕ) (l : List ℕ) → v < 2 ^ 64 → bits_ahead v l < 2 ^ 64

@@ -1,12 +1,13 @@
 -- The trace of case A as a waveform, byte for byte; files that are no waveform by one line or byte; and the numbers at their limits. All computed.
-use Rattle.std.specs.Prelude.{ℕ, ◌+◌, true, false, ◌≡◌, List, [], ◌∷◌, ◌++◌, drop}
+use Rattle.std.specs.Prelude.{ℕ, ◌+◌, true, ◌≡◌, List, [], ◌∷◌, ◌++◌, drop, None, Some, is_some, Ok, Err}
 use Rattle.scenario_lines.specs.Ascii.{bytes}
 use Rattle.vcd.specs.Blocks.{time_line, opening, front}
 use Rattle.vcd.specs.Wave.{waveform}
 use Rattle.vcd.specs.Trace.{most_rows}
-use Rattle.vcd.specs.Write.{done, wrong, file_of, written, written_in}
-use Rattle.vcd.specs.Read.{block_at, None, Some, found, read, read_in}
+use Rattle.vcd.specs.Write.{wrong, file_of, written, written_in}
+use Rattle.vcd.specs.Read.{block_at, found, read, read_in}
 use Rattle.vcd.specs.declared.Signals.{Signals}
+use Rattle.vcd.specs.declared.Refusal.TheVariants.{NoRoom, NoTrace}
 
 abbrev pub none : Signals
 none = record { exc = 0; rc = 0 }
@@ -51,7 +52,7 @@ FoundEdges =
 
 -- the last time that a trace has, and the next
 abbrev pub LastTime : Type 0
-LastTime = ((block_at 0 none (time_line most_rows)).good ≡ true) × ((block_at 0 none (time_line (most_rows + 1))).good ≡ false)
+LastTime = (is_some (block_at 0 none (time_line most_rows)) ≡ true) × (block_at 0 none (time_line (most_rows + 1)) ≡ None)
 
 -- a row's flag is its fifth word, its count the sixth: access 7 puts the flag up while two readers are counted
 abbrev pub FlagUp : Type 0
@@ -60,16 +61,16 @@ FlagUp = file_of (3 ∷ 7 ∷ 0 ∷ 0 ∷ 1 ∷ 2 ∷ []) (record { exc = 0; rc 
 -- ---- read: two words are room for the signals of time 0 alone, which are no row, and the word behind them stays; in a refusal all stay
 abbrev pub ReadEdges : Type 0
 ReadEdges =
-    (read (waveform five []) 2 ≡ done 0)
+    (read (waveform five []) 2 ≡ Ok 0)
     × (read_in (waveform (record { exc = 1; rc = 5 }) []) (7 ∷ 7 ∷ 7 ∷ []) ≡ 1 ∷ 5 ∷ 7 ∷ [])
-    × ((read (waveform five []) 1).refused ≡ 41)
+    × (read (waveform five []) 1 ≡ Err NoRoom)
     × (read_in (waveform five []) (7 ∷ []) ≡ 7 ∷ [])
 
 -- ---- written: 152 bytes are just room for no rows; a flag of 2, no whole row in a list without room; in a refusal the list stays
 abbrev pub WrittenEdges : Type 0
 WrittenEdges =
-    (written [] none 152 ≡ done 152)
-    × ((written [] none 151).refused ≡ 41)
+    (written [] none 152 ≡ Ok 152)
+    × (written [] none 151 ≡ Err NoRoom)
     × (wrong [] (record { exc = 2; rc = 0 }) ≡ true)
-    × ((written (1 ∷ []) none 0).refused ≡ 43)
+    × (written (1 ∷ []) none 0 ≡ Err NoTrace)
     × (written_in (1 ∷ []) none (7 ∷ []) ≡ 7 ∷ [])

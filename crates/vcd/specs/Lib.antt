@@ -2,6 +2,7 @@ pub mod Binary
 pub mod Blocks
 pub mod Wave
 pub mod Trace
+pub mod Refusals
 pub mod Write
 pub mod Read
 pub mod Laws

@@ -1,23 +1,12 @@
 -- What the writer answers, and what it leaves.
-use Rattle.std.specs.Prelude.{ℕ, ◌%◌, Bool, false, ◌||◌, not, cond, List, [], ◌∷◌, eqb, ltb, leb, length}
+use Rattle.std.specs.Prelude.{ℕ, ◌%◌, Bool, false, ◌||◌, not, cond, List, [], ◌∷◌, eqb, ltb, leb, length, Result, Ok, Err, is_ok}
 use Rattle.std.proofs.lemmas.List.Edits.{sets}
 use Rattle.machine.specs.Names.{row_words}
 use Rattle.vcd.specs.Wave.{waveform}
 use Rattle.vcd.specs.Trace.{signals_in}
 use Rattle.vcd.specs.declared.Signals.{Signals}
-use Rattle.vcd.specs.declared.Answer.{Answer}
-
-abbrev pub no_room : ℕ
-no_room = 41
-
-abbrev pub no_trace : ℕ
-no_trace = 43
-
-abbrev pub done : ℕ → Answer
-done n = record { refused = 0; n = n }
-
-abbrev pub refused_by : ℕ → Answer
-refused_by number = record { refused = number; n = 0 }
+use Rattle.vcd.specs.declared.Refusal.{Refusal}
+use Rattle.vcd.specs.declared.Refusal.TheVariants.{NoRoom, NoTrace}
 
 -- a flag that is no bit
 unfoldable pub any_high : List Signals → Bool
@@ -31,11 +20,11 @@ wrong trace s = not (eqb (length trace % row_words) 0) || any_high (s ∷ signal
 abbrev pub file_of : List ℕ → Signals → List ℕ
 file_of trace s = waveform s (signals_in trace)
 
--- the refusal's number, or how many bytes were written
-unfoldable pub written : List ℕ → Signals → ℕ → Answer
+-- how many bytes were written, or the refusal
+unfoldable pub written : List ℕ → Signals → ℕ → Result ℕ Refusal
 written trace s room =
-    cond (wrong trace s) (refused_by no_trace) (cond (leb (length (file_of trace s)) room) (done (length (file_of trace s))) (refused_by no_room))
+    cond (wrong trace s) (Err NoTrace) (cond (leb (length (file_of trace s)) room) (Ok (length (file_of trace s))) (Err NoRoom))
 
 -- the list afterwards: bytes behind the text stay, and all of them in a refusal
 unfoldable pub written_in : List ℕ → Signals → List ℕ → List ℕ
-written_in trace s out = cond (eqb (written trace s (length out)).refused 0) (sets out 0 (file_of trace s)) out
+written_in trace s out = cond (is_ok (written trace s (length out))) (sets out 0 (file_of trace s)) out

@@ -1,9 +1,12 @@
-// The declared types of waveforms: the signals, where a text stands, what is found in a file, and what is answered. What a waveform is, and what its
-// writer and its reader answer, stands in specs/.
+// The declared types of waveforms: the signals, where a text stands, what is found in a file, and why a call is refused. What a waveform is, and
+// what its writer and its reader answer, stands in specs/.
 #![tactic(auto)]
 
+ghost use Rattle.std.specs.Prelude.{◌≡◌};
+ghost use Rattle.vcd.specs.Refusals.{number_of};
+
 // The flag and the count, as numbers.
-#[derive(Clone, Copy)]
+#[derive(Clone, Copy, PartialEq, Eq)]
 pub struct Signals {
     pub exc: u64,
     pub rc: u64,
@@ -17,18 +20,34 @@ pub struct Wave {
     pub signals: Signals,
 }
 
-// What stands at a place of the file: whether it is a block that may stand there; its time, the signals after it, and its length.
+// A block that may stand at a place of the file: its time, the signals after it, and its length.
 #[derive(Clone, Copy)]
 pub struct Block {
-    pub good: bool,
     pub time: u64,
     pub signals: Signals,
     pub len: usize,
 }
 
-// The number of the refusal, 0 for none; and how many bytes were written, or how many rows were read.
-#[derive(Clone, Copy)]
-pub struct Answer {
-    pub refused: u64,
-    pub n: u64,
+// Why nothing was written, or read.
+#[derive(Clone, Copy, PartialEq, Eq)]
+pub enum Refusal {
+    // What is written has no room.
+    NoRoom,
+    // The file is not the waveform of any signals.
+    NoWave,
+    // The trace has no whole rows, or an exc is above 1.
+    NoTrace,
+}
+
+// The number that is printed.
+impl From<Refusal> for u64 {
+    ghost from_gives = { λ why n. n ≡ number_of why };
+
+    fn from(why: Refusal) -> u64 {
+        match why {
+            Refusal::NoRoom => 41,
+            Refusal::NoWave => 42,
+            Refusal::NoTrace => 43,
+        }
+    }
 }

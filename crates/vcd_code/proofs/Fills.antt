@@ -1,5 +1,5 @@
 -- Signals stored as words, one row after another. Assumes nothing.
-use Prim.Native.Nat.{ℕ, zero, suc, ◌+◌, ◌-◌, ◌*◌, ◌<◌, ◌≤◌}
+use Prim.Native.Nat.{ℕ, zero, suc, ◌+◌, ◌*◌}
 use mathlib.Core.Path.{◌≡◌, refl, sym, ap, subst}
 use mathlib.Core.List.{List, [], ◌∷◌, ◌++◌}
 use native.Mathlib.Omega.{arith}
@@ -15,11 +15,6 @@ unfolding words
 words_append [] ys = refl
 words_append (x ∷ xs) ys = rw (words_append xs ys)
 
-pub words_length : (xs : List Signals) → length (words xs) ≡ 2 * length xs
-unfolding words
-words_length [] = refl
-words_length (x ∷ xs) = omega (arith, words_length xs)
-
 -- ---- the loop over rows that are alike
 still_length : (n : ℕ) (s : Signals) → length (words (replicate n s)) ≡ 2 * n
 unfolding words
@@ -27,19 +22,17 @@ still_length zero s = refl
 still_length (suc n) s = omega (arith, still_length n s)
 
 module _ (s : Signals) (out : List ℕ) (p left : ℕ) where
-  pub one_still : 0 < left → sets out p (words (replicate left s)) ≡ sets (set (set out p s.exc) (p + 1) s.rc) (p + 2) (words (replicate (left - 1) s))
+  pub one_still : (q m : ℕ) → left ≡ m + 1 → q ≡ p + 2 → sets out p (words (replicate left s)) ≡ sets (set (set out p s.exc) (p + 1) s.rc) q (words (replicate m s))
   unfolding words
-  one_still h =
-      let e : left ≡ suc (left - 1) = omega arith in
+  one_still q m h g =
+      let e : left ≡ suc m = omega arith in
       let one : p + 1 ≡ suc p = omega arith in
-      let two : p + 2 ≡ suc (suc p) = omega arith in
+      let two : q ≡ suc (suc p) = omega arith in
       rw (one, two) (ap (λ (m : ℕ). sets out p (words (replicate m s))) e)
 
-  pub none_still : left ≤ 0 → sets out p (words (replicate left s)) ≡ out
+  pub none_still : left ≡ 0 → sets out p (words (replicate left s)) ≡ out
   unfolding words
-  none_still h =
-      let e : left ≡ 0 = omega arith in
-      ap (λ (m : ℕ). sets out p (words (replicate m s))) e
+  none_still e = ap (λ (m : ℕ). sets out p (words (replicate m s))) e
 
 pub all_still : (s : Signals) (before out : List ℕ) (at n p : ℕ) → p ≡ at + 2 * n → out ≡ sets before at (words (replicate n s))
     → Put before at (words (replicate n s)) (2 * n) p out

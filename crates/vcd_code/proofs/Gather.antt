@@ -1,30 +1,32 @@
 -- One turn of each search of the bytes ahead is one unfolding of its definition. Assumes nothing.
 use Prim.Native.Nat.{ℕ, ◌+◌, ◌-◌, ◌*◌, ◌^◌, ◌≤◌, ◌<◌}
-use mathlib.Core.Bool.{Bool, true, false, ◌||◌, false≢true}
+use mathlib.Core.Bool.{Bool, true, false, ◌||◌, cond, false≢true}
 use mathlib.Core.Path.{◌≡◌, refl, sym, ◌∙◌}
 use mathlib.Core.List.{List, [], ◌∷◌}
 use native.Mathlib.Numerals.{add-one}
 use native.Mathlib.Omega.{arith}
-use borrow.Author.Tests.{lt-ltb, le-ltb, eq-eqb, ne_eqb, eqb-true}
+use borrow.Author.Tests.{lt-ltb, le-ltb, eq-eqb, ne_eqb, eqb-true, eqb-false}
 use lib.Dec.{eqb}
-use lib.ListN.{length, get_or, drop, drop_of_length-le}
-use lib.Seq.{drop-cons, drop-length}
-use Rattle.std.specs.Prelude.{Some, None}
+use lib.ListN.{length, get_or, take, drop, drop_of_length-le}
+use lib.Seq.{drop-cons}
+use Rattle.std.specs.Prelude.{Option, Some, None, MatchOption}
+use Rattle.std.proofs.Common.{Bor}
+use Rattle.std.specs.Cmp.Lexicographic.{pointwise}
 use Rattle.scenario_lines.specs.Number.{more}
 use Rattle.vcd.specs.Binary.{is_bit}
 use Rattle.vcd.specs.Read.{digits_ahead, bits_ahead, rc_ahead, signals_ahead, starts}
 use Rattle.vcd.specs.declared.Signals.{Signals}
 
--- ---- a place behind the end
-pub none_there : (l : List ℕ) (n : ℕ) → length l < n → drop (length l) l ≡ drop n l
-none_there l n h =
-    let far : length l ≤ n = omega arith in
-    drop-length l ∙ sym (drop_of_length-le l far)
+-- ---- a binary digit
+pub bit_there : (t : Bool) (x d : ℕ) → Some d ≡ cond t (Some x) None → (t ≡ true) × (d ≡ x)
+bit_there true x d e = (refl, cc)
+bit_there false x d e = cc
 
-pub no_first : (l : List ℕ) → length l ≡ 0 → 0 ≡ get_or l 0 0
-no_first [] h = refl
-no_first (b ∷ l) h = absurd (omega arith)
+pub no_bit : (t : Bool) (x : ℕ) → None ≡ cond t (Some x) None → t ≡ false
+no_bit true x e = cc
+no_bit false x e = refl
 
+-- ---- the digits from place i on
 module _ (s : List ℕ) (i v : ℕ) where
   pub digits_no : i < length s → more v (get_or s i 0) ≡ None → digits_ahead v (drop i s) ≡ v
   unfolding digits_ahead
@@ -46,9 +48,10 @@ module _ (s : List ℕ) (i v : ℕ) where
   unfolding bits_ahead
   bits_full h e full = rw (drop-cons s i 0, e, le-ltb v (2 ^ 63) full)
 
-  pub bits_more : i < length s → is_bit (get_or s i 0) ≡ true → v < 2 ^ 63 → bits_ahead v (drop i s) ≡ bits_ahead (v * 2 + (get_or s i 0 - 48)) (drop (i + 1) s)
+  pub bits_more : (d : ℕ) → i < length s → is_bit (get_or s i 0) ≡ true → d ≡ get_or s i 0 - 48 → v < 2 ^ 63
+      → bits_ahead v (drop i s) ≡ bits_ahead (v * 2 + d) (drop (i + 1) s)
   unfolding bits_ahead
-  bits_more h e less = rw (add-one, drop-cons s i 0, e, lt-ltb v (2 ^ 63) less)
+  bits_more d h e f less = rw (add-one, drop-cons s i 0, e, f, lt-ltb v (2 ^ 63) less)
 
   pub bits_over : length s ≤ i → bits_ahead v (drop i s) ≡ v
   unfolding bits_ahead
@@ -65,31 +68,41 @@ bit_is b h = bit_by (eqb b 48) (eqb b 49) b refl refl h
 
 -- ---- the lines of signals
 module _ (s : Signals) (l : List ℕ) where
-  pub signals_with : (b exc rc : ℕ) → b ≡ get_or l 0 0 → is_bit b ≡ true → exc ≡ b - 48 → rc ≡ rc_ahead s.rc (drop 3 l)
+  pub signals_with : (b exc rc : ℕ) → b ≡ get_or l 0 0 → Some exc ≡ cond (is_bit b) (Some (b - 48)) None → rc ≡ rc_ahead s.rc (drop 3 l)
       → record { exc = exc; rc = rc } ≡ signals_ahead s l
   unfolding signals_ahead
-  signals_with b exc rc e is f g = rw (f, g, ← e, is)
+  signals_with b exc rc e is g =
+      let (there, f) = bit_there (is_bit b) (b - 48) exc is in
+      rw (f, g, ← e, there)
 
-  pub signals_without : (b rc : ℕ) → b ≡ get_or l 0 0 → is_bit b ≡ false → rc ≡ rc_ahead s.rc l → record { exc = s.exc; rc = rc } ≡ signals_ahead s l
+  pub signals_without : (b rc : ℕ) → b ≡ get_or l 0 0 → None ≡ cond (is_bit b) (Some (b - 48)) None → rc ≡ rc_ahead s.rc l
+      → record { exc = s.exc; rc = rc } ≡ signals_ahead s l
   unfolding signals_ahead
-  signals_without b rc e other g =
+  signals_without b rc e is g =
+      let other = no_bit (is_bit b) (b - 48) is in
       let here : is_bit (get_or l 0 0) ≡ false = rw e at other in
       rw (g, here)
 
--- ---- whether a list begins with a text
-module _ (s l : List ℕ) (i : ℕ) where
-  pub starts_short : i < length s → length l ≤ i → starts (drop i s) (drop i l) ≡ false
-  unfolding starts
-  starts_short h k = rw (drop-cons s i 0, drop_of_length-le l k)
+-- ---- whether a list begins with a text, as `starts_with` and `strip_prefix` say it
+pub starts_as : (s l : List ℕ) → pointwise eqb s (take (length s) l) ≡ starts s l
+unfolding starts
+starts_as [] l = refl
+starts_as (a ∷ s) [] = refl
+starts_as (a ∷ s) (b ∷ l) = rw (starts_as s l)
 
-  pub starts_other : i < length s → i < length l → (get_or s i 0 ≡ get_or l i 0 → ⊥) → starts (drop i s) (drop i l) ≡ false
-  unfolding starts
-  starts_other h k e = rw (drop-cons s i 0, drop-cons l i 0, ne_eqb (get_or s i 0) (get_or l i 0) e)
+turned_by : (t : Bool) (a b : ℕ) → eqb a b ≡ t → eqb b a ≡ t
+turned_by true a b e = eq-eqb b a (sym (eqb-true a b e))
+turned_by false a b e = ne_eqb b a (λ h. eqb-false a b e (sym h))
 
-  pub starts_on : i < length s → i < length l → get_or s i 0 ≡ get_or l i 0 → starts (drop i s) (drop i l) ≡ starts (drop (i + 1) s) (drop (i + 1) l)
-  unfolding starts
-  starts_on h k e = rw (add-one, drop-cons s i 0, drop-cons l i 0, eq-eqb (get_or s i 0) (get_or l i 0) e)
+pub strips_as : (s l : List ℕ) → pointwise eqb (take (length s) l) s ≡ starts s l
+unfolding starts
+strips_as [] l = refl
+strips_as (a ∷ s) [] = refl
+strips_as (a ∷ s) (b ∷ l) = rw (strips_as s l, turned_by (eqb a b) a b refl)
 
-  pub starts_over : length s ≤ i → starts (drop i s) (drop i l) ≡ true
-  unfolding starts
-  starts_over h = rw (drop_of_length-le s h)
+pub stripped : (s l : List ℕ) (r : Option (Bor (List ℕ)))
+    → MatchOption r (pointwise eqb (take (length s) l) s ≡ false)
+    (λ x. (pointwise eqb (take (length s) l) s ≡ true) × (x.now ≡ drop (length s) l) × (length x.now + length s ≡ length l))
+    → MatchOption r (starts s l ≡ false) (λ x. (starts s l ≡ true) × (x.now ≡ drop (length s) l))
+stripped s l None h = sym (strips_as s l) ∙ h
+stripped s l (Some x) h = (sym (strips_as s l) ∙ h.0, h.1)

@@ -1,7 +1,7 @@
 -- The text of a block or of the opening, stored in a list of its own, is the start of that list. Assumes nothing.
 use Prim.Native.Nat.{ℕ, ◌+◌, ◌≤◌}
 use mathlib.Core.Bool.{Bool, true, false, cond, not, ◌&&◌, ◌||◌}
-use mathlib.Core.Path.{◌≡◌, sym, ap, ◌∙◌}
+use mathlib.Core.Path.{◌≡◌, refl}
 use mathlib.Core.List.{List, ◌++◌}
 use native.Mathlib.Omega.{arith}
 use lib.Dec.{ltb, leb}
@@ -11,6 +11,9 @@ use Rattle.scenario_text.specs.Put.{Put, stored, place_after}
 use Rattle.scenario_text.proofs.Stores.{both}
 use Rattle.vcd.specs.Blocks.{time_line, front, same, changed, time_bytes, changed_bytes, front_bytes}
 use Rattle.vcd.specs.Trace.{most_rows}
+use Rattle.std.specs.Prelude.{Some, None}
+use Rattle.std.specs.Bool.{then_some}
+use Rattle.vcd.specs.declared.Block.{Block}
 use Rattle.vcd.specs.Read.{digits_ahead, signals_ahead, starts, block_at}
 use Rattle.vcd.specs.declared.Signals.{Signals}
 use Rattle.vcd.proofs.Laws.{short}
@@ -51,9 +54,13 @@ module _ (s x : Signals) (time n len : ℕ) (between after : List ℕ)
   -- where the bytes ahead say that time and those signals, it is the block there
   pub block_is : (t : ℕ) (l : List ℕ) (still good : Bool) → time ≡ digits_ahead 0 (drop 1 l) → x ≡ signals_ahead s (drop n l) → still ≡ same s x
       → good ≡ (starts (take len after) l && (ltb t time && (leb time most_rows && (not still || leb (length l) (length (take len after))))))
-      → record { good = good; time = time; signals = x; len = len } ≡ block_at t s l
+      → cond good (Some (record { time = time; signals = x; len = len })) None ≡ block_at t s l
   unfolding block_at
   block_is t l still good e f g h = rw (h, block_there, g, block_place, f, time_place, e)
+
+pub told_some : (good : Bool) (k : Block) → then_some good k ≡ cond good (Some k) None
+told_some true k = refl
+told_some false k = refl
 
 -- ---- the opening
 module _ (s : Signals) (n : ℕ) (after : List ℕ)
@@ -67,15 +74,5 @@ module _ (s : Signals) (n : ℕ) (after : List ℕ)
   pub front_room : n ≤ length after
   front_room = omega (arith, opens.room, opens.size)
 
-  front_there : take n after ≡ front s
+  pub front_there : take n after ≡ front s
   front_there = text_there opens (omega (arith, opens.room, opens.next))
-
-  module _ (file : List ℕ) (t : Bool) (told : t ≡ starts (take n after) file) where
-    opened : starts (front s) file ≡ t
-    opened = ap (λ (b : List ℕ). starts b file) (sym front_there) ∙ sym told
-
-    pub front_yes : t ≡ true → n ≡ cond (starts (front s) file) (length (front s)) 0
-    front_yes e = rw (opened, e) front_place
-
-    pub front_no : t ≡ false → 0 ≡ cond (starts (front s) file) (length (front s)) 0
-    front_no e = rw (opened, e)

@@ -1,5 +1,5 @@
 // What the bytes ahead would say, gathered without a test of what stands there.
-ghost use Rattle.std.specs.Prelude.{◌-◌, ◌≤◌, ◌≡◌, get_or, drop};
+ghost use Rattle.std.specs.Prelude.{◌-◌, ◌≡◌, cond, get_or, drop, Some, None};
 ghost use Rattle.vcd.specs.Binary.{is_bit};
 ghost use Rattle.vcd.specs.Read.{digits_ahead, bits_ahead, rc_ahead, signals_ahead};
 
@@ -13,76 +13,54 @@ const HALF: u64 = 9223372036854775808;
 pub(crate) fn behind(s: &[u8], n: usize) -> &[u8]
     ensures { result.now ≡ drop n s.now }
 {
-    if s.len() < n {
-        let m = s.len();
-        return &s[m..];
-    }
-    &s[n..]
+    s.get(n..).unwrap_or(&[])
 }
 
 // The first byte, or 0.
 fn first(s: &[u8]) -> u8
     ensures { result ≡ get_or s.now 0 0 }
 {
-    if s.len() == 0 {
-        return 0;
-    }
-    s[0]
+    s.first().copied().unwrap_or(0)
 }
 
 // The digits as far as they are a number below 2^64.
 pub(crate) fn digits_ahead(s: &[u8]) -> u64
     ensures { result ≡ digits_ahead 0 s.now }
 {
-    let mut v: u64 = 0;
-    let mut i = 0;
-    while i < s.len() {
-        let m = number::one_more(v, s[i]);
-        match m {
-            None => {
-                return v;
-            }
-            Some(x) => {
-                v = x;
-            }
-        }
-        i += 1;
+    let mut v = 0;
+    for b in s {
+        let Some(x) = number::one_more(v, *b) else {
+            return v;
+        };
+        v = x;
     }
     v
 }
 
-fn is_bit(b: u8) -> bool
-    ensures { result ≡ is_bit b }
+// The binary digit that a byte is.
+fn bit(b: u8) -> Option<u64>
+    ensures { result ≡ cond (is_bit b) (Some (b - 48)) None }
 {
-    if b == b'0' {
-        return true;
+    match b {
+        b'0' => Some(0),
+        b'1' => Some(1),
+        _ => None,
     }
-    b == b'1'
-}
-
-fn value(b: u8) -> u64
-    requires { 48 ≤ b }
-    ensures { result ≡ b - 48 }
-{
-    b as u64 - 48
 }
 
 // The binary digits as far as they are a number below 2^64.
 fn bits_ahead(s: &[u8]) -> u64
     ensures { result ≡ bits_ahead 0 s.now }
 {
-    let mut v: u64 = 0;
-    let mut i = 0;
-    while i < s.len() {
-        let b = s[i];
-        if !is_bit(b) {
+    let mut v = 0;
+    for b in s {
+        let Some(d) = bit(*b) else {
             return v;
-        }
+        };
         if HALF <= v {
             return v;
         }
-        v = v * 2 + value(b);
-        i += 1;
+        v = v * 2 + d;
     }
     v
 }
@@ -100,13 +78,14 @@ fn rc_ahead(was: u64, s: &[u8]) -> u64
 pub(crate) fn signals_ahead(was: Signals, s: &[u8]) -> Signals
     ensures { result ≡ signals_ahead was s.now }
 {
-    let b = first(s);
-    if is_bit(b) {
-        let exc = value(b);
-        let rc = rc_ahead(was.rc, behind(s, 3));
-        return Signals { exc, rc };
+    match bit(first(s)) {
+        Some(exc) => Signals {
+            exc,
+            rc: rc_ahead(was.rc, behind(s, 3)),
+        },
+        None => Signals {
+            rc: rc_ahead(was.rc, s),
+            ..was
+        },
     }
-    let exc = was.exc;
-    let rc = rc_ahead(was.rc, s);
-    Signals { exc, rc }
 }

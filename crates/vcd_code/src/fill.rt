@@ -10,15 +10,12 @@ fn still(out: &mut [u64], at: usize, n: u64, s: Signals) -> usize
     requires { at + 2 * n ≤ length out.old }
     ensures { Put out.old at (words (replicate n s)) (2 * n) result out.new }
 {
-    let mut p = at;
-    let mut left = n;
-    while 0 < left {
-        out[p] = s.exc;
-        out[p + 1] = s.rc;
-        p += 2;
-        left -= 1;
+    let end = at + 2 * n as usize;
+    for k in 0..n as usize {
+        out[at + 2 * k] = s.exc;
+        out[at + 2 * k + 1] = s.rc;
     }
-    p
+    end
 }
 
 // n rows where the signals stay s, and the row that makes them x.

@@ -5,6 +5,3 @@ mod ahead;
 mod fill;
 pub mod read;
 pub mod write;
-
-// The refusal where what is written has no room.
-pub const NO_ROOM: u64 = 41;

@@ -4,7 +4,7 @@
 // lines are wrong on purpose, and each of them has to be found. A line that cannot be read is counted too.
 #![tactic(auto)]
 
-ghost use Rattle.std.specs.Prelude.{◌≤◌};
+ghost use Rattle.std.specs.Prelude.{◌<◌, length, IfSome};
 
 use replay::numbers::Stored;
 use replay::reading::Reading;
@@ -12,7 +12,7 @@ use replay::tally::{Tally, Verdict};
 use replay::{lists, numbers, reading, tally};
 use scenario_lines::number::one_more;
 use std::io::{Read, Stdin, Stdout};
-use vcd::Answer;
+use vcd::{Refusal, Signals};
 use vcd_code::{read, write};
 
 // Room for the numbers of a line, and for its bytes. The longest of the list have 613 and 2,924.
@@ -28,6 +28,7 @@ const WORD_BEFORE: u64 = 11936128518282651045;
 // How many numbers stand before the words: what, call, room, number, n, exc, rc.
 const FIELDS: usize = 7;
 
+// The list's own numbers of the calls: an enum of them would be made only to be matched once.
 const WRITE: u64 = 1;
 
 const READ: u64 = 2;
@@ -103,7 +104,7 @@ fn verdict_on(line: &[u8]) -> Verdict {
     let Stored::All(n) = numbers::numbers(lists::part(line, 0, bar), &mut words) else {
         return Verdict::Unreadable;
     };
-    let Stored::All(m) = bytes_in(lists::part(line, bar + 1, line.len()), &mut bytes) else {
+    let Some(m) = bytes_in(lists::part(line, bar + 1, line.len()), &mut bytes) else {
         return Verdict::Unreadable;
     };
     replay_call(lists::words(&words, 0, n), lists::part(&bytes, 0, m))
@@ -131,27 +132,28 @@ fn verdict_of(is_equal: bool) -> Verdict {
 
 // A line with a larger room than the arrays have counts as different.
 fn writes(line: &[u64], bytes: &[u8]) -> bool {
-    let mut out = [BYTE_BEFORE; BYTES];
-    let room = lists::word(line, 2);
-    if room > BYTES as u64 {
-        return false;
+    let mut all = [BYTE_BEFORE; BYTES];
+    match all.get_mut(..lists::word(line, 2) as usize) {
+        Some(out) => writes_into(line, bytes, out),
+        None => false,
     }
-    writes_into(line, bytes, &mut out[..room as usize])
 }
 
 fn writes_into(line: &[u64], bytes: &[u8], out: &mut [u8]) -> bool {
-    let trace = words_of(line);
-    let answer = write::write(trace, lists::word(line, 5), lists::word(line, 6), out);
-    is_told(line, answer) && lists::is_front(out, bytes, BYTE_BEFORE)
+    let s = Signals {
+        exc: lists::word(line, 5),
+        rc: lists::word(line, 6),
+    };
+    let answer = write::write(words_of(line), s, out);
+    is_told(line, answer.map(|n| n as u64)) && lists::is_front(out, bytes, BYTE_BEFORE)
 }
 
 fn reads(line: &[u64], bytes: &[u8]) -> bool {
-    let mut out = [WORD_BEFORE; WORDS];
-    let room = lists::word(line, 2);
-    if room > WORDS as u64 {
-        return false;
+    let mut all = [WORD_BEFORE; WORDS];
+    match all.get_mut(..lists::word(line, 2) as usize) {
+        Some(out) => reads_into(line, bytes, out),
+        None => false,
     }
-    reads_into(line, bytes, &mut out[..room as usize])
 }
 
 fn reads_into(line: &[u64], bytes: &[u8], out: &mut [u64]) -> bool {
@@ -159,8 +161,13 @@ fn reads_into(line: &[u64], bytes: &[u8], out: &mut [u64]) -> bool {
     is_told(line, answer) && lists::are_front(out, words_of(line), WORD_BEFORE)
 }
 
-fn is_told(line: &[u64], answer: Answer) -> bool {
-    answer.refused == lists::word(line, 3) && answer.n == lists::word(line, 4)
+// A line has the number of the refusal, 0 where there is none, and how many bytes or rows there are.
+fn is_told(line: &[u64], answer: Result<u64, Refusal>) -> bool {
+    let (number, n) = match answer {
+        Ok(n) => (0, n),
+        Err(why) => (u64::from(why), 0),
+    };
+    number == lists::word(line, 3) && n == lists::word(line, 4)
 }
 
 // The words behind the fields of a line.
@@ -169,58 +176,38 @@ fn words_of(line: &[u64]) -> &[u64] {
 }
 
 // Bytes, some of them as a backslash with three digits, go to the start of `bytes`; how many there are.
-fn bytes_in(text: &[u8], bytes: &mut [u8]) -> Stored {
+fn bytes_in(text: &[u8], bytes: &mut [u8]) -> Option<usize> {
+    let mut left = text;
     let mut n = 0;
-    let mut at = 0;
-    while at < text.len() {
-        let width = width_of(text[at]);
-        if width > text.len() - at {
-            return Stored::Broken;
-        }
-        let b = byte_in(lists::part(text, at, at + width));
-        if b > 255 {
-            return Stored::Broken;
-        }
-        if n >= bytes.len() {
-            return Stored::Broken;
-        }
-        bytes[n] = b as u8;
+    while !left.is_empty() {
+        let (b, behind) = byte_ahead(left)?;
+        *bytes.get_mut(n)? = b;
         n += 1;
-        at += width;
+        left = behind;
     }
-    Stored::All(n)
+    Some(n)
 }
 
-fn width_of(b: u8) -> usize
-    ensures { 1 ≤ result }
+// The byte that the text begins with, one byte of the list or a backslash with three digits, and what is behind it.
+fn byte_ahead(text: &[u8]) -> Option<(u8, &[u8])>
+    ensures { IfSome result (λ x. length x.1.now < length text.now) }
 {
-    if b == b'\\' { 4 } else { 1 }
+    match text {
+        [b'\\', a, b, c, behind @ ..] => Some((three_digits(*a, *b, *c)?, behind)),
+        [b'\\', ..] | [] => None,
+        [b, behind @ ..] => Some((*b, behind)),
+    }
 }
 
-// The byte that one byte of the list, or a backslash with three digits, stands for; 256 for none.
-fn byte_in(text: &[u8]) -> u64 {
-    if text.len() == 1 {
-        return wide(text[0]);
-    }
-    if text.len() != 4 {
-        return 256;
-    }
-    three_digits(text[1], text[2], text[3])
-}
-
-fn three_digits(a: u8, b: u8, c: u8) -> u64 {
+fn three_digits(a: u8, b: u8, c: u8) -> Option<u8> {
     let Some(x) = one_more(0, a) else {
-        return 256;
+        return None;
     };
     let Some(y) = one_more(x, b) else {
-        return 256;
+        return None;
     };
     let Some(z) = one_more(y, c) else {
-        return 256;
+        return None;
     };
-    z
-}
-
-fn wide(b: u8) -> u64 {
-    b as u64
+    u8::try_from(z).ok()
 }

@@ -1,6 +1,6 @@
 -- What is claimed: rows may be cut anywhere; where there is room none is lost; and what the rows of a scenario file write is the waveform of them,
 -- however the reader came to them.
-use Rattle.std.specs.Prelude.{ℕ, ◌+◌, ◌*◌, ◌/◌, ◌^◌, ◌<◌, ◌≤◌, ◌≡◌, List, [], ◌∷◌, ◌++◌, length}
+use Rattle.std.specs.Prelude.{ℕ, ◌+◌, ◌*◌, ◌/◌, ◌^◌, ◌<◌, ◌≤◌, ◌≡◌, List, [], ◌∷◌, ◌++◌, length, Some}
 use Rattle.std.proofs.lemmas.List.Edits.{sets}
 use Rattle.machine.specs.Names.{row_words}
 use Rattle.machine.specs.Run.{words_of}
@@ -11,7 +11,7 @@ use Rattle.scenario_promises.specs.Piped.{ComesTo}
 use Rattle.vcd.specs.Blocks.{front, change_bytes}
 use Rattle.vcd.specs.Wave.{at_first, close, waveform}
 use Rattle.vcd.specs.Trace.{most_rows, row_signals, of_rows}
-use Rattle.vcd.specs.Read.{Some, found}
+use Rattle.vcd.specs.Read.{found}
 use Rattle.vcd.specs.declared.Signals.{Signals}
 use Rattle.vcd.specs.declared.Wave.{Wave}
 use Rattle.vcd_rows.specs.Waves.{left_by, text_by, left_of, stored_of}

@@ -21,22 +21,18 @@ pub struct Left {
 pub fn has_room(len: usize, at: usize, n: usize) -> bool
     ensures { result ≡ leb (at + 93 * n) len }
 {
-    if len < at {
-        return false;
-    }
-    n <= (len - at) / CHANGE
+    at <= len && n <= (len - at) / CHANGE
 }
 
 // What the first n rows change is stored from `at` on. Where there are not so many rows, or what they change might have no room, nothing is stored
 // and all stays.
+#[tactic(auto, unfolding(crate::specs::Waves::left_of, crate::specs::Waves::stored_of))]
 pub fn put_rows(wave: Wave, rows: &[u64], n: usize, out: &mut [u8], at: usize) -> Left
     ensures value { result ≡ left_of wave rows.now n out.old at }
     ensures out_after { out.new ≡ stored_of wave rows.now n out.old at }
 {
-    if scenario_text::has_rows(rows.len(), n) {
-        if has_room(out.len(), at, n) {
-            return write_rows(wave, rows, n, out, at);
-        }
+    if scenario_text::has_rows(rows.len(), n) && has_room(out.len(), at, n) {
+        return write_rows(wave, rows, n, out, at);
     }
     Left { wave, at }
 }
@@ -49,19 +45,16 @@ fn write_rows(wave: Wave, rows: &[u64], n: usize, out: &mut [u8], at: usize) -> 
 {
     let mut w = wave;
     let mut p = at;
-    let mut k = 0;
-    while k < n {
+    for k in 0..n {
         let x = signals_at(rows, ROW_WORDS * k);
-        let before = w.signals;
         let v = vcd_text::counted(w, x);
-        p = vcd_text::put_change(out, p, v.time, before, x);
+        p = vcd_text::put_change(out, p, v.time, w.signals, x);
         w = v;
-        k += 1;
     }
     Left { wave: w, at: p }
 }
 
-// Of the row whose words start at p.
+// Of the row whose words start at p. `vcd_code` has the same: one for both would be public, and no public function requires anything.
 fn signals_at(rows: &[u64], p: usize) -> Signals
     requires { p + 6 ≤ length rows.now }
     ensures { result ≡ signals_at rows.now p }

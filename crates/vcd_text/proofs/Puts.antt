@@ -1,4 +1,4 @@
--- What the functions that store a text leave where there is room for it, as `Put`. Assumes nothing.
+-- What the functions that store a text leave, told in both forms: with its room, and as `Put`. Assumes nothing.
 use Rattle.std.proofs.Common.{◌≡◌, ℕ, ◌+◌, ◌≤◌, List, length, le-leb}
 use lib.Seq.{sets}
 use Rattle.scenario_text.specs.Put.{Put, stored, place_after}

@@ -1,6 +1,6 @@
 // A waveform as text in a lent list: its opening with both signals at time 0, the lines of a row that changed a signal, a time. Each `put`
 // function stores its text from a place on and returns the place after it. Where the longest such text has no room, nothing is stored and the
-// place given is returned. The `if` in each is no function that takes what to write as a closure, for the reason that `scenario_text` gives.
+// place given is returned.
 #![tactic(auto)]
 
 ghost use Rattle.std.specs.Prelude.{◌≡◌, ◌+◌, ◌<◌, ◌≤◌, [], ◌++◌, length, if◌then◌else◌, nat_eq};
@@ -9,7 +9,7 @@ ghost use Rattle.scenario_text.specs.Number.{text};
 ghost use Rattle.scenario_text.specs.Put.{Put, stored, place_after};
 ghost use Rattle.vcd.specs.Binary.{binary};
 ghost use Rattle.vcd.specs.Wave.{counted, close};
-ghost use Rattle.vcd.specs.Blocks.{time_line, exc_line, rc_line, front, opening, dump, same, changed, change, time_bytes, changed_bytes, change_bytes, front_bytes};
+ghost use Rattle.vcd.specs.Blocks.{time_line, exc_line, rc_line, front, opening, dump, changed, change, time_bytes, changed_bytes, change_bytes, front_bytes};
 
 use vcd::{Signals, Wave};
 
@@ -22,18 +22,12 @@ pub const CHANGE: usize = 93;
 
 pub const FRONT: usize = 215;
 
-pub fn same(s: Signals, x: Signals) -> bool
-    ensures { result ≡ same s x }
-{
-    s.exc == x.exc && s.rc == x.rc
-}
-
 // After one more row, with the signals x. Its time is taken as written only where it changed a signal.
 pub fn counted(p: Wave, x: Signals) -> Wave
     ensures { result ≡ counted p x }
 {
     let time = p.time.wrapping_add(1);
-    let written = if same(p.signals, x) { p.written } else { time };
+    let written = if p.signals == x { p.written } else { time };
     Wave {
         time,
         written,
@@ -47,10 +41,9 @@ pub fn put_front(out: &mut [u8], at: usize, s: Signals) -> usize
     ensures out_after { out.new ≡ stored front_bytes out.old at (front s) }
 {
     if scenario_text::has_room(out.len(), at, FRONT) {
-        write_front(out, at, s)
-    } else {
-        at
+        return write_front(out, at, s);
     }
+    at
 }
 
 pub fn put_time(out: &mut [u8], at: usize, t: u64) -> usize
@@ -58,10 +51,9 @@ pub fn put_time(out: &mut [u8], at: usize, t: u64) -> usize
     ensures out_after { out.new ≡ stored time_bytes out.old at (time_line t) }
 {
     if scenario_text::has_room(out.len(), at, TIME) {
-        write_time(out, at, t)
-    } else {
-        at
+        return write_time(out, at, t);
     }
+    at
 }
 
 // Those of the signals x that are not as in s; there may be none.
@@ -70,45 +62,49 @@ pub fn put_changed(out: &mut [u8], at: usize, s: Signals, x: Signals) -> usize
     ensures out_after { out.new ≡ stored changed_bytes out.old at (changed s x) }
 {
     if scenario_text::has_room(out.len(), at, CHANGED) {
-        write_changed(out, at, s, x)
-    } else {
-        at
+        return write_changed(out, at, s, x);
     }
+    at
 }
 
 // The row at time t, after which the signals are x; nothing where they are as before.
-#[tactic(auto, using(vcd::proofs::Parts::change_none, vcd::proofs::Parts::change_some))]
+#[tactic(auto, unfolding(vcd::specs::Blocks::change))]
 pub fn put_change(out: &mut [u8], at: usize, t: u64, s: Signals, x: Signals) -> usize
     ensures value { result ≡ place_after change_bytes out.old at (change t s x) }
     ensures out_after { out.new ≡ stored change_bytes out.old at (change t s x) }
 {
-    if !same(s, x) && scenario_text::has_room(out.len(), at, CHANGE) {
-        write_change(out, at, t, s, x)
-    } else {
-        at
+    if s == x {
+        return at;
     }
+    if scenario_text::has_room(out.len(), at, CHANGE) {
+        return write_change(out, at, t, s, x);
+    }
+    at
 }
 
 // The last time, where it is not written yet.
-#[tactic(auto, using(vcd::proofs::Parts::close_none, vcd::proofs::Parts::close_some))]
+#[tactic(auto, unfolding(vcd::specs::Wave::close))]
 pub fn put_close(out: &mut [u8], at: usize, p: Wave) -> usize
     ensures value { result ≡ place_after time_bytes out.old at (close p) }
     ensures out_after { out.new ≡ stored time_bytes out.old at (close p) }
 {
     if p.time == p.written {
-        at
-    } else {
-        put_time(out, at, p.time)
+        return at;
     }
+    put_time(out, at, p.time)
 }
 
 // ---- where there is room
 
-// How many digits v has in binary.
+// How many digits v has in binary. `scenario_text` has the same of decimal digits: one for both bases would be public, and would have to require
+// a base above 1, and no public function requires anything.
 fn bits_of(v: u64) -> usize
     ensures { result ≡ length (binary v) }
 {
-    v.max(1).ilog2() as usize + 1
+    if v == 0 {
+        return 1;
+    }
+    v.ilog2() as usize + 1
 }
 
 fn bit(d: u64) -> u8
@@ -118,21 +114,18 @@ fn bit(d: u64) -> u8
     b'0' + d as u8
 }
 
-// The digits are stored from the last to the first, each in its place, so that none is copied; what is left of v ends the loop, not a place.
+// The digits are stored from the last to the first, each in its place, so that none is copied.
 fn write_binary(out: &mut [u8], at: usize, v: u64) -> usize
     requires { at + 64 ≤ length out.old }
     ensures { Put out.old at (binary v) 64 result out.new }
 {
-    let end = at + bits_of(v);
-    let mut p = end;
+    let n = bits_of(v);
     let mut w = v;
-    while 2 <= w {
-        p -= 1;
-        out[p] = bit(w % 2);
+    for k in 0..n {
+        out[at + n - 1 - k] = bit(w % 2);
         w /= 2;
     }
-    out[at] = bit(w);
-    end
+    at + n
 }
 
 fn write_bytes(out: &mut [u8], at: usize, s: &[u8]) -> usize
@@ -149,7 +142,6 @@ fn write_number(out: &mut [u8], at: usize, v: u64) -> usize
     scenario_text::put_number(out, at, v)
 }
 
-#[tactic(auto, unfolding(vcd::specs::Blocks::time_line))]
 fn write_time(out: &mut [u8], at: usize, t: u64) -> usize
     requires { at + 22 ≤ length out.old }
     ensures { Put out.old at (time_line t) 22 result out.new }
@@ -164,10 +156,12 @@ fn write_exc(out: &mut [u8], at: usize, v: u64) -> usize
     requires { at + 3 ≤ length out.old }
     ensures { Put out.old at (exc_line v) 3 result out.new }
 {
-    write_bytes(out, at, if v == 0 { b"0e\n" } else { b"1e\n" })
+    if v == 0 {
+        return write_bytes(out, at, b"0e\n");
+    }
+    write_bytes(out, at, b"1e\n")
 }
 
-#[tactic(auto, unfolding(vcd::specs::Blocks::rc_line))]
 fn write_rc(out: &mut [u8], at: usize, v: u64) -> usize
     requires { at + 68 ≤ length out.old }
     ensures { Put out.old at (rc_line v) 68 result out.new }
@@ -183,10 +177,9 @@ fn write_exc_of(out: &mut [u8], at: usize, was: u64, exc: u64) -> usize
     ensures { Put out.old at (if nat_eq was exc then [] else exc_line exc) 3 result out.new }
 {
     if was == exc {
-        at
-    } else {
-        write_exc(out, at, exc)
+        return at;
     }
+    write_exc(out, at, exc)
 }
 
 // The count, likewise.
@@ -194,10 +187,12 @@ fn write_rc_of(out: &mut [u8], at: usize, was: u64, rc: u64) -> usize
     requires { at + 68 ≤ length out.old }
     ensures { Put out.old at (if nat_eq was rc then [] else rc_line rc) 68 result out.new }
 {
-    if was == rc { at } else { write_rc(out, at, rc) }
+    if was == rc {
+        return at;
+    }
+    write_rc(out, at, rc)
 }
 
-#[tactic(auto, unfolding(vcd::specs::Blocks::changed))]
 fn write_changed(out: &mut [u8], at: usize, s: Signals, x: Signals) -> usize
     requires { at + 71 ≤ length out.old }
     ensures { Put out.old at (changed s x) 71 result out.new }
@@ -225,7 +220,6 @@ fn write_both(out: &mut [u8], at: usize, s: Signals) -> usize
     write_bytes(out, m, b"$end\n")
 }
 
-#[tactic(auto, unfolding(vcd::specs::Blocks::dump))]
 fn write_dump(out: &mut [u8], at: usize, s: Signals) -> usize
     requires { at + 89 ≤ length out.old }
     ensures { Put out.old at (dump s) 89 result out.new }
@@ -246,7 +240,6 @@ fn write_opening(out: &mut [u8], at: usize) -> usize
     )
 }
 
-#[tactic(auto, unfolding(vcd::specs::Blocks::front))]
 fn write_front(out: &mut [u8], at: usize, s: Signals) -> usize
     requires { at + 215 ≤ length out.old }
     ensures { Put out.old at (front s) 215 result out.new }

@@ -1,5 +1,4 @@
--- `write_rows` meets its contract. The loop's invariant: storing here what the rows that are left change is storing all of it at the start. The
--- measure is how many are left. Assumes nothing.
+-- `write_rows` meets its contract. Assumes nothing.
 use Rattle.vcd_rows.proofs.PutRows.{begins, one_more, all_done}
 use Rattle.vcd_rows.proofs.write_rows.Goals as goal
 

@@ -1,8 +1,12 @@
 -- `bits_of` meets its contract. Assumes nothing.
-use Rattle.vcd_text.proofs.Loops.{length_log}
+use Rattle.std.proofs.Common.{sym, arith}
+use Rattle.vcd_text.proofs.Loops.{length_one, length_at}
 use Rattle.vcd_text.proofs.bits_of.Goals as goal
+
+pub returns-then-v-eq0 : goal.returns-then-v-eq0
+returns-then-v-eq0 c = sym (length_one c.args.v (omega arith))
 
 pub returns : goal.returns
 returns c =
-    let e = c.ilog2.ensures in
-    length_log c.ilog2.result c.args.v (rw c.max.ensures at e.power_le) (rw c.max.ensures at e.next_power_gt) c.ranges.v.fits
+    let top = c.ilog2 in
+    sym (length_at top.result c.args.v top.ensures.power_le top.ensures.next_power_gt c.ranges.v.fits)

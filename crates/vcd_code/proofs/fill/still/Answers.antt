@@ -1,24 +1,16 @@
--- `still` meets its contract. The loop's invariant: storing here what is left is storing all at the start. The measure is what is left. Assumes nothing.
-use mathlib.Core.Path.{refl, sym, ◌∙◌}
-use native.Mathlib.Omega.{arith}
-use lib.ListN.{length-set}
+-- `still` meets its contract. Assumes nothing.
+use Rattle.std.proofs.Common.{◌+◌, ◌-◌, ◌*◌, arith, refl, sym, ◌∙◌, length-set}
 use Rattle.vcd_code.proofs.Fills.{one_still, none_still, all_still}
 use Rattle.vcd_code.proofs.fill.still.Goals as goal
 
-pub loop-left-init : goal.loop-left-init
-loop-left-init c = (omega arith, refl, refl)
-
-pub bounds-out-p-in-loop-left : goal.bounds-out-p-in-loop-left
-bounds-out-p-in-loop-left c = omega (arith, length-set c.loop-left.out c.loop-left.p c.args.s.exc)
-
-pub loop-left-preserved : goal.loop-left-preserved
-loop-left-preserved c =
+pub loop-k-preserved : goal.loop-k-preserved
+loop-k-preserved c =
     let a = c.args in
-    let l = c.loop-left in
-    (omega arith, simp length-set l.invariant.1, l.invariant.2 ∙ one_still a.s l.out l.p l.left c.loop-left-test.true)
+    let l = c.loop-k in
+    (simp length-set l.invariant.0, l.invariant.1 ∙ one_still a.s l.out (a.at + 2 * l.k) (a.n - l.k) (a.at + 2 * (l.k + 1)) (a.n - (l.k + 1)) (omega arith) (omega arith))
 
 pub returns : goal.returns
 returns c =
     let a = c.args in
-    let l = c.loop-left in
-    all_still a.s a.out.now l.out a.at a.n l.p (omega arith) (sym (l.invariant.2 ∙ none_still a.s l.out l.p l.left c.loop-left-test.false))
+    let l = c.loop-k in
+    all_still a.s a.out.now l.out a.at a.n _ refl (sym (l.invariant.1 ∙ none_still a.s l.out (a.at + 2 * l.k) (a.n - l.k) (omega arith)))

@@ -1,60 +1,56 @@
--- `answer_of` meets its contract. The loop's invariant: the answer for the whole is the answer from here on, t rows being read. The measure is what
--- is left. Assumes nothing.
-use mathlib.Core.Path.{sym, ◌∙◌}
+-- `answer_of` meets its contract. Assumes nothing.
+use mathlib.Core.Path.{sym, ap, ◌∙◌}
+use mathlib.Core.List.{List}
+use Prim.Native.Nat.{ℕ}
 use native.Mathlib.Omega.{arith}
-use Rattle.vcd_code.proofs.BlocksOn.{rows_on, from_first}
-use Rattle.vcd_code.proofs.Passes.{bad_ends, stays_in, read_on, reads, reads_no_room}
-use borrow.Author.Tests.{not-true, not-false}
+use lib.ListN.{length, length-drop}
+use Rattle.std.proofs.lemmas.Result.{err_from_is_err_and}
+use Rattle.vcd_code.proofs.BlocksOn.{rows_on, read_from, from_first}
+use Rattle.vcd_code.proofs.Passes.{some_left, none_left, no_block_at, bad_ends, stays_in, read_on, reads, reads_no_room}
 use Rattle.vcd_code.proofs.read.answer_of.Goals as goal
 
-pub loop-at-init : goal.loop-at-init
-loop-at-init c =
+pub loop-left-init : goal.loop-left-init
+loop-left-init c =
     let a = c.args in
-    (omega arith, from_first a.first (rows_on 0 a.first a.rest.now) a.room)
+    from_first a.first (rows_on 0 a.first a.rest.now) a.room
+
+pub returns-in_err-k : goal.returns-in_err-k
+returns-in_err-k c =
+    let a = c.args in
+    let g = c.loop-left in
+    let some = some_left g.left.now _ c.is_empty.ensures c.loop-left-test.true in
+    let from = err_from_is_err_and c.from_residual.result c.from_residual.ensures.1 in
+    let (none, why) = no_block_at _ _ _ c.in_err-k.ensures.value in
+    rw (from.1, from.2, why) (sym (g.invariant ∙ bad_ends g.rows g.s g.left.now a.room some (sym c.block_at.ensures ∙ none)))
+
+pub loop-left-smaller : goal.loop-left-smaller
+loop-left-smaller c =
+    let a = c.args in
+    let g = c.loop-left in
+    let k = c.in_ok-k in
+    let some = some_left g.left.now _ c.is_empty.ensures c.loop-left-test.true in
+    omega (arith, ap length c.behind-left.ensures, length-drop k.k.len g.left.now, stays_in g.rows g.s g.left.now a.room k.k some (sym c.block_at.ensures ∙ k.ensures.ok_part))
+
+pub loop-left-preserved : goal.loop-left-preserved
+loop-left-preserved c =
+    let a = c.args in
+    let g = c.loop-left in
+    let k = c.in_ok-k in
+    let some = some_left g.left.now _ c.is_empty.ensures c.loop-left-test.true in
+    g.invariant
+    ∙ read_on g.rows g.s g.left.now a.room k.k some (sym c.block_at.ensures ∙ k.ensures.ok_part)
+    ∙ ap (λ (l : List ℕ). read_from k.k.time (rows_on k.k.time k.k.signals l) a.room) (sym c.behind-left.ensures)
 
 pub returns-then-rows-room : goal.returns-then-rows-room
 returns-then-rows-room c =
     let a = c.args in
-    let g = c.loop-at in
-    sym (g.invariant.1 ∙ reads a.rest.now g.rows g.s g.at c.loop-at-test.false a.room c.if-rows-room.true)
+    let g = c.loop-left in
+    let none = none_left g.left.now _ c.is_empty.ensures c.loop-left-test.false in
+    sym (g.invariant ∙ reads g.rows g.s g.left.now none a.room c.if-rows-room.true)
 
-pub returns : goal.returns
-returns c =
+pub returns-else-rows-room : goal.returns-else-rows-room
+returns-else-rows-room c =
     let a = c.args in
-    let g = c.loop-at in
-    sym (g.invariant.1 ∙ reads_no_room a.rest.now g.rows g.s g.at c.loop-at-test.false a.room c.if-rows-room.false)
-
-pub loop-at-preserved : goal.loop-at-preserved
-loop-at-preserved c =
-    let a = c.args in
-    let g = c.loop-at in
-    let k = c.block_at-k in
-    let more = c.loop-at-test.true in
-    let good = not-false _ c.if-not-k.false in (
-      (stays_in a.rest.now g.rows g.s g.at a.room k.result (k.ensures ∙ rw c.behind.ensures) more good).2,
-      g.invariant.1 ∙ read_on a.rest.now g.rows g.s g.at a.room k.result (k.ensures ∙ rw c.behind.ensures) more good,
-    )
-
-pub loop-at-smaller : goal.loop-at-smaller
-loop-at-smaller c =
-    let a = c.args in
-    let g = c.loop-at in
-    let k = c.block_at-k in
-    let more = c.loop-at-test.true in
-    omega (arith, stays_in a.rest.now g.rows g.s g.at a.room k.result (k.ensures ∙ rw c.behind.ensures) more (not-false _ c.if-not-k.false))
-
-pub overflow_add-at : goal.overflow_add-at
-overflow_add-at c =
-    let a = c.args in
-    let g = c.loop-at in
-    let k = c.block_at-k in
-    let more = c.loop-at-test.true in
-    omega (arith, stays_in a.rest.now g.rows g.s g.at a.room k.result (k.ensures ∙ rw c.behind.ensures) more (not-false _ c.if-not-k.false))
-
-pub returns-then-not-k : goal.returns-then-not-k
-returns-then-not-k c =
-    let a = c.args in
-    let g = c.loop-at in
-    let k = c.block_at-k in
-    let more = c.loop-at-test.true in
-    sym (g.invariant.1 ∙ bad_ends a.rest.now g.rows g.s g.at a.room k.result (k.ensures ∙ rw c.behind.ensures) more (not-true _ c.if-not-k.true))
+    let g = c.loop-left in
+    let none = none_left g.left.now _ c.is_empty.ensures c.loop-left-test.false in
+    sym (g.invariant ∙ reads_no_room g.rows g.s g.left.now none a.room c.if-rows-room.false)

@@ -1,15 +1,12 @@
--- `answer_of` meets its contract. The loop's invariant: the answer for the whole is the answer from here on, t rows being read. The measure is what
--- is left. Assumes nothing.
-use Prim.Native.Nat.{◌-◌, ◌≤◌}
-use mathlib.Core.Path.{◌≡◌}
-use lib.ListN.{length, drop}
+-- `answer_of` meets its contract. The loop's invariant: the answer for the whole is the answer from here on, `rows` rows being read. Assumes nothing.
+use Rattle.std.proofs.Common.{◌≡◌, length}
 use Rattle.vcd.specs.Read.{read_as}
 use Rattle.vcd_code.proofs.BlocksOn.{rows_on, read_from}
 use Rattle.vcd_code.proofs.Passes.{all_of}
 use Rattle.vcd_code.proofs.read.answer_of.Given as goal
 
-abbrev pub invariant-loop-at : goal.invariant-loop-at
-invariant-loop-at l = (l.at ≤ length l.rest) × (read_as (all_of l.initial.s l.rest) l.room ≡ read_from l.rows (rows_on l.rows l.s (drop l.at l.rest)) l.room)
+abbrev pub invariant-loop-left : goal.invariant-loop-left
+invariant-loop-left l = read_as (all_of l.initial.s l.initial.left) l.room ≡ read_from l.rows (rows_on l.rows l.s l.left) l.room
 
-abbrev pub decreases-loop-at : goal.decreases-loop-at
-decreases-loop-at l = length l.rest - l.at
+abbrev pub decreases-loop-left : goal.decreases-loop-left
+decreases-loop-left l = length l.left

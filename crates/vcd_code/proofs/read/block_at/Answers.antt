@@ -1,7 +1,7 @@
 -- `block_at` meets its contract. Assumes nothing.
 use mathlib.Core.Path.{sym, ◌∙◌}
 use lib.Seq.{length-take-le}
-use Rattle.vcd_code.proofs.Scratch.{block_room, block_is}
+use Rattle.vcd_code.proofs.Scratch.{block_room, block_is, told_some}
 use Rattle.vcd_code.proofs.read.block_at.Goals as goal
 
 pub slice_bounds-text-end : goal.slice_bounds-text-end
@@ -17,5 +17,7 @@ slice_bounds-is_good-end c =
 pub returns : goal.returns
 returns c =
     let a = c.args in
-    block_is a.s _ _ _ _ _ _ c.put_time-n.ensures.value c.put_time-n.ensures.out_after c.put_changed-len.ensures.value c.put_changed-len.ensures.out_after
-    a.t a.rest.now _ _ (c.digits_ahead-time.ensures ∙ rw c.behind.ensures) (c.signals_ahead-x.ensures ∙ rw c.behind-2.ensures) c.same.ensures c.is_good-good.ensures
+    c.then_some.ensures
+    ∙ told_some _ _
+    ∙ block_is a.s _ _ _ _ _ _ c.put_time-n.ensures.value c.put_time-n.ensures.out_after c.put_changed-len.ensures.value c.put_changed-len.ensures.out_after
+    a.t a.rest.now _ _ (c.digits_ahead-time.ensures ∙ rw c.behind.ensures) (c.signals_ahead-signals.ensures ∙ rw c.behind-2.ensures) c.eq.ensures c.is_good.ensures

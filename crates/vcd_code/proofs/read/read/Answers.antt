@@ -3,26 +3,24 @@ use mathlib.Core.Path.{◌∙◌}
 use Rattle.vcd_code.proofs.Passes.{not_opened, opened}
 use Rattle.vcd_code.proofs.read.read.Goals as goal
 
-pub returns-then-n-eq0-clause-value : goal.returns-then-n-eq0-clause-value
-returns-then-n-eq0-clause-value c =
+pub returns-in-Some-clause-value : goal.returns-in-Some-clause-value
+returns-in-Some-clause-value c =
     let a = c.args in
-    (not_opened a.file.now _ _ (c.signals_ahead-s.ensures ∙ rw c.behind.ensures) c.front_at-n.ensures c.if-n-eq0.true a.out.now).0
+    let front = c.in-Some.ensures in
+    (opened a.file.now _ (c.signals_ahead-s.ensures ∙ rw c.behind.ensures) front.0 _ front.1 a.out.now _ _ c.read_rows.ensures.value c.read_rows.ensures.out_after).0
 
-pub returns-then-n-eq0-clause-out_after : goal.returns-then-n-eq0-clause-out_after
-returns-then-n-eq0-clause-out_after c =
+pub returns-in-Some-clause-out_after : goal.returns-in-Some-clause-out_after
+returns-in-Some-clause-out_after c =
     let a = c.args in
-    (not_opened a.file.now _ _ (c.signals_ahead-s.ensures ∙ rw c.behind.ensures) c.front_at-n.ensures c.if-n-eq0.true a.out.now).1
+    let front = c.in-Some.ensures in
+    (opened a.file.now _ (c.signals_ahead-s.ensures ∙ rw c.behind.ensures) front.0 _ front.1 a.out.now _ _ c.read_rows.ensures.value c.read_rows.ensures.out_after).1
 
-pub returns-clause-out_after : goal.returns-clause-out_after
-returns-clause-out_after c =
+pub returns-in-None-clause-value : goal.returns-in-None-clause-value
+returns-in-None-clause-value c =
     let a = c.args in
-    let rest = c.behind-2.ensures in
-    (opened a.file.now _ _ (c.signals_ahead-s.ensures ∙ rw c.behind.ensures) c.front_at-n.ensures c.if-n-eq0.false a.out.now c.read_rows.new.out c.read_rows.result
-    (rw (← rest) c.read_rows.ensures.value) (rw (← rest) c.read_rows.ensures.out_after)).1
+    (not_opened a.file.now _ (c.signals_ahead-s.ensures ∙ rw c.behind.ensures) c.in-None.ensures a.out.now).0
 
-pub returns-clause-value : goal.returns-clause-value
-returns-clause-value c =
+pub returns-in-None-clause-out_after : goal.returns-in-None-clause-out_after
+returns-in-None-clause-out_after c =
     let a = c.args in
-    let rest = c.behind-2.ensures in
-    (opened a.file.now _ _ (c.signals_ahead-s.ensures ∙ rw c.behind.ensures) c.front_at-n.ensures c.if-n-eq0.false a.out.now c.read_rows.new.out c.read_rows.result
-    (rw (← rest) c.read_rows.ensures.value) (rw (← rest) c.read_rows.ensures.out_after)).0
+    (not_opened a.file.now _ (c.signals_ahead-s.ensures ∙ rw c.behind.ensures) c.in-None.ensures a.out.now).1

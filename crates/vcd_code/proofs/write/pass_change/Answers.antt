@@ -1,15 +1,23 @@
 -- `pass_change` meets its contract. Assumes nothing.
+use mathlib.Core.Path.{sym}
+use lib.Seq.{length-take-le}
 use Prim.Native.Nat.{◌+◌}
 use Rattle.vcd.specs.Blocks.{change, change_bytes}
 use Rattle.vcd.proofs.Laws.{short}
 use Rattle.vcd_code.proofs.Walk.{made}
 use Rattle.vcd_code.proofs.write.pass_change.Goals as goal
 
-pub pass-requires : goal.pass-requires
-pass-requires c =
+pub slice_bounds-piece-end : goal.slice_bounds-piece-end
+slice_bounds-piece-end c =
     let a = c.args in
     let put = c.put_change-n in
     (made (change (a.p.time + 1) a.p.signals a.x) _ change_bytes _ (short.2 _ _ _) put.ensures.value put.ensures.out_after).0
+
+pub slice_bounds-pass-end : goal.slice_bounds-pass-end
+slice_bounds-pass-end c =
+    let a = c.args in
+    let put = c.put_change-n in
+    sym (length-take-le _ _ (made (change (a.p.time + 1) a.p.signals a.x) _ change_bytes _ (short.2 _ _ _) put.ensures.value put.ensures.out_after).0)
 
 pub returns-clause-value : goal.returns-clause-value
 returns-clause-value c =

@@ -1,15 +1,23 @@
 -- `pass_close` meets its contract. Assumes nothing.
+use mathlib.Core.Path.{sym}
+use lib.Seq.{length-take-le}
 use Rattle.vcd.specs.Blocks.{time_bytes}
 use Rattle.vcd.specs.Wave.{close}
 use Rattle.vcd_code.proofs.TraceRows.{close_short}
 use Rattle.vcd_code.proofs.Walk.{made}
 use Rattle.vcd_code.proofs.write.pass_close.Goals as goal
 
-pub pass-requires : goal.pass-requires
-pass-requires c =
+pub slice_bounds-piece-end : goal.slice_bounds-piece-end
+slice_bounds-piece-end c =
     let a = c.args in
     let put = c.put_close-n in
     (made (close a.p) _ time_bytes _ (close_short a.p) put.ensures.value put.ensures.out_after).0
+
+pub slice_bounds-pass-end : goal.slice_bounds-pass-end
+slice_bounds-pass-end c =
+    let a = c.args in
+    let put = c.put_close-n in
+    sym (length-take-le _ _ (made (close a.p) _ time_bytes _ (close_short a.p) put.ensures.value put.ensures.out_after).0)
 
 pub returns-clause-value : goal.returns-clause-value
 returns-clause-value c =

@@ -1,5 +1,5 @@
--- `walk_rows` meets its contract. The loop's invariant: passing here the text of the rows that are left is passing all of it at the start. The
--- measure is how many rows are left. Assumes nothing.
+-- `walk_rows` meets its contract. Assumes nothing.
+use Rattle.std.proofs.lemmas.Result.{err_from_is_err_and}
 use mathlib.Core.Path.{refl}
 use native.Mathlib.Omega.{arith}
 use Rattle.vcd.specs.Wave.{at_first}
@@ -11,37 +11,33 @@ loop-k-init c =
     let a = c.args in
     (omega arith, refl, rows_begin a.trace.now a.out.now a.from a.storing (at_first a.s))
 
-pub pass_change-a-requires : goal.pass_change-a-requires
-pass_change-a-requires c = omega (arith, c.loop-k.invariant.1, c.loop-k-test.true)
-
-pub next_row-p-requires : goal.next_row-p-requires
-next_row-p-requires c = omega (arith, c.loop-k.invariant.1, c.loop-k-test.true)
-
 pub loop-k-preserved : goal.loop-k-preserved
 loop-k-preserved c =
     let a = c.args in
     let g = c.loop-k in
-    let pass = c.pass_change-a in
+    let pass = c.in_ok-at.ensures in
     row_more a.trace.now _ a.out.now a.from a.storing (at_first a.s) g.out g.p g.at g.k g.invariant
-    _ _ _ c.loop-k-test.true c.signals_at-x.ensures pass.ensures.value pass.ensures.out_after _ c.next_row-p.ensures c.if-a-ne0.false
+    _ _ c.loop-k-test.true c.signals_at-x.ensures pass.out_after _ _ c.next_row-p.ensures pass.value
 
-pub returns-then-a-ne0-clause-value : goal.returns-then-a-ne0-clause-value
-returns-then-a-ne0-clause-value c =
+pub returns-in_err-at-clause-value : goal.returns-in_err-at-clause-value
+returns-in_err-at-clause-value c =
     let start = c in
     let a = start.args in
     let g = c.loop-k in
-    let pass = c.pass_change-a in
+    let pass = c.in_err-at.ensures in
+    let from = err_from_is_err_and c.from_residual.result c.from_residual.ensures.1 in
+    rw (from.1, from.2)
     (row_none a.trace.now _ a.out.now a.from a.storing (at_first a.s) g.out g.p g.at g.k g.invariant
-    _ _ _ c.loop-k-test.true c.signals_at-x.ensures pass.ensures.value pass.ensures.out_after start.requires c.if-a-ne0.true).0
+    _ _ c.loop-k-test.true c.signals_at-x.ensures pass.out_after _ start.requires pass.value).0
 
-pub returns-then-a-ne0-clause-out_after : goal.returns-then-a-ne0-clause-out_after
-returns-then-a-ne0-clause-out_after c =
+pub returns-in_err-at-clause-out_after : goal.returns-in_err-at-clause-out_after
+returns-in_err-at-clause-out_after c =
     let start = c in
     let a = start.args in
     let g = c.loop-k in
-    let pass = c.pass_change-a in
+    let pass = c.in_err-at.ensures in
     (row_none a.trace.now _ a.out.now a.from a.storing (at_first a.s) g.out g.p g.at g.k g.invariant
-    _ _ _ c.loop-k-test.true c.signals_at-x.ensures pass.ensures.value pass.ensures.out_after start.requires c.if-a-ne0.true).1
+    _ _ c.loop-k-test.true c.signals_at-x.ensures pass.out_after _ start.requires pass.value).1
 
 pub returns-clause-value : goal.returns-clause-value
 returns-clause-value c =
