@@ -14,6 +14,8 @@ const UNREAD: u8 = 141;
 pub struct Outputs {
     pub out: Stdout,
     pub err: Stderr,
+    // What is said where some of the text could not be written.
+    pub cut: &'static [u8],
 }
 
 // Why text that was to be written did not all go out.
@@ -39,7 +41,7 @@ impl From<ErrorKind> for Lost {
 impl Outputs {
     // What became of a write, by what it answered. Where some of the text could not be written, that is said. Whoever has gone does not want to hear
     // of it.
-    pub fn judge(self, answer: io::Result<()>, cut: &[u8]) -> Result<(), Lost>
+    pub fn judge(self, answer: io::Result<()>) -> Result<(), Lost>
         ensures { result ≡ written_by answer }
     {
         let Err(why) = answer else {
@@ -47,7 +49,7 @@ impl Outputs {
         };
         let lost = Lost::from(why.kind());
         if lost == Lost::Cut {
-            let _ = self.err.write_all(cut);
+            let _ = self.err.write_all(self.cut);
         }
         Err(lost)
     }
