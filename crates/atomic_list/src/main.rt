@@ -8,7 +8,6 @@
 ghost use Rattle.std.specs.Prelude.{◌≡◌, true};
 
 use atomic::{CellId, Count};
-use replay::numbers::Stored;
 use replay::reading::Reading;
 use replay::tally::Tally;
 use replay::{lists, numbers, reading, tally};
@@ -128,7 +127,7 @@ fn agrees(line: &[u8]) -> bool {
 // What follows the name is nine numbers and nothing more.
 fn is_row(width: u64, operation: Operation, text: &[u8]) -> bool {
     let mut f = [0; NUMBERS];
-    let Stored::All(n) = numbers::numbers(text, &mut f) else {
+    let Some(n) = numbers::numbers(text, &mut f) else {
         return false;
     };
     n == NUMBERS && is_made(width, operation, f)

@@ -9,7 +9,7 @@ use Rattle.scenario_lines.specs.declared.Parsed.TheVariants.{Is}
 use Rattle.replay.specs.Lists.{front_then}
 use Rattle.replay.specs.Numbers.{filled, numbers_of}
 use Rattle.replay.specs.Reading.{Took, took, taking}
-use Rattle.replay.specs.declared.numbers.Stored.TheVariants.{All}
+use Rattle.std.specs.declared.option.Option.TheVariants.{Some}
 
 abbrev pub SameList : Type 0
 SameList = (s t : List ℕ) → (equal s t ≡ true → s ≡ t) × (s ≡ t → equal s t ≡ true)
@@ -24,7 +24,7 @@ FrontAndRest =
 -- where the fields of a line are these numbers and the words have room, the words start with them and are behind as they were
 abbrev pub NumbersInPlace : Type 0
 NumbersInPlace =
-    (text w vs : List ℕ) → map number (fields text) ≡ map Is vs → length vs ≤ length w → numbers_of text w ≡ filled (All (length vs)) (vs ++ drop (length vs) w)
+    (text w vs : List ℕ) → map number (fields text) ≡ map Is vs → length vs ≤ length w → numbers_of text w ≡ filled (Some (length vs)) (vs ++ drop (length vs) w)
 
 -- no break among the bytes
 abbrev pub without_break : List ℕ → Bool

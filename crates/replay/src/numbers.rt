@@ -9,16 +9,8 @@ use scenario_lines::number::parse_number;
 // What the first number of a line says that is wrong on purpose.
 const WRONG: u64 = 999;
 
-// What became of what a line holds: how many of them there are.
-#[derive(Clone, Copy)]
-pub enum Stored {
-    // One of them cannot be read, or has no room.
-    Broken,
-    All(usize),
-}
-
-// The numbers of a line go to the start of `words`, up to the first that is none or has no room.
-pub fn numbers(text: &[u8], words: &mut [u64]) -> Stored
+// The numbers of a line go to the start of `words`, up to the first that is none or has no room. How many they are, where each is read and has room.
+pub fn numbers(text: &[u8], words: &mut [u64]) -> Option<usize>
     ensures value { result ≡ (numbers_of text.now words.old).told }
     ensures words_after { words.new ≡ (numbers_of text.now words.old).words }
 {
@@ -27,11 +19,11 @@ pub fn numbers(text: &[u8], words: &mut [u64]) -> Stored
     loop {
         let end = find(text, at, b',');
         if !put(words, n, parse_number(part(text, at, end))) {
-            return Stored::Broken;
+            return None;
         }
         n += 1;
         if end >= text.len() {
-            return Stored::All(n);
+            return Some(n);
         }
         at = end + 1;
     }
@@ -52,14 +44,12 @@ fn put(words: &mut [u64], at: usize, what: Parsed) -> bool
     ensures value { result ≡ is_put what at words.old }
     ensures words_after { words.new ≡ put_in what at words.old }
 {
-    match what {
-        Parsed::No => false,
-        Parsed::Is(n) => {
-            if at >= words.len() {
-                return false;
-            }
-            words[at] = n;
-            true
-        }
+    let Parsed::Is(n) = what else {
+        return false;
+    };
+    if at >= words.len() {
+        return false;
     }
+    words[at] = n;
+    true
 }

@@ -6,7 +6,6 @@
 
 ghost use Rattle.std.specs.Prelude.{◌≤◌};
 
-use replay::numbers::Stored;
 use replay::reading::Reading;
 use replay::tally::{Tally, Verdict};
 use replay::{lists, numbers, reading, tally};
@@ -101,13 +100,13 @@ fn verdict_on(line: &[u8]) -> Verdict {
     }
     let mut words = [0; WORDS];
     let mut bytes = [0; BYTES];
-    let Stored::All(n) = numbers::numbers(lists::part(line, 0, bar), &mut words) else {
+    let Some(n) = numbers::numbers(lists::part(line, 0, bar), &mut words) else {
         return Verdict::Unreadable;
     };
-    let Stored::All(m) = bytes_in(lists::part(line, bar + 1, line.len()), &mut bytes) else {
+    let Some(m) = bytes_in(lists::part(line, bar + 1, line.len()), &mut bytes) else {
         return Verdict::Unreadable;
     };
-    replay_call(lists::words(&words, 0, n), lists::part(&bytes, 0, m))
+    replay_call(lists::part(&words, 0, n), lists::part(&bytes, 0, m))
 }
 
 fn replay_call(line: &[u64], bytes: &[u8]) -> Verdict {
@@ -166,30 +165,30 @@ fn is_told(line: &[u64], answer: Answer) -> bool {
 
 // The words behind the fields of a line.
 fn words_of(line: &[u64]) -> &[u64] {
-    lists::words(line, FIELDS, line.len())
+    lists::part(line, FIELDS, line.len())
 }
 
 // Bytes, some of them as a backslash with three digits, go to the start of `bytes`; how many there are.
-fn bytes_in(text: &[u8], bytes: &mut [u8]) -> Stored {
+fn bytes_in(text: &[u8], bytes: &mut [u8]) -> Option<usize> {
     let mut n = 0;
     let mut at = 0;
     while at < text.len() {
         let width = width_of(text[at]);
         if width > text.len() - at {
-            return Stored::Broken;
+            return None;
         }
         let b = byte_in(lists::part(text, at, at + width));
         if b > 255 {
-            return Stored::Broken;
+            return None;
         }
         if n >= bytes.len() {
-            return Stored::Broken;
+            return None;
         }
         bytes[n] = b as u8;
         n += 1;
         at += width;
     }
-    Stored::All(n)
+    Some(n)
 }
 
 fn width_of(b: u8) -> usize
