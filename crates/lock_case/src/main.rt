@@ -25,10 +25,8 @@ fn main(rt: HostRuntime) {
         records(),
         THREADS,
     );
-    let start = begun.start;
-    let recs = begun.recs;
-    match start {
-        Start::Made(lock) => replay(to, &lens, &ops, &vals, lock, recs),
+    match begun.start {
+        Start::Made(lock) => replay(to, &lens, &ops, &vals, lock, begun.recs),
         Start::Refused(why) => refused(to, why),
     }
 }
@@ -38,24 +36,19 @@ fn replay(to: Stdout, lens: &[u64], ops: &[u64], vals: &[u64], lock: Lock, recs:
     let mut trace = [99u64; 80];
     let first = [0u64, 0, 2];
     let one = lock_held::run(lens, ops, vals, lock, recs, THREADS, &first, 3, &mut trace);
-    let lock = one.lock;
-    let recs = one.recs;
     let cycle = [1u64, 1, 0, 0, 2, 0, 0, 1, 1, 2];
     let two = lock_held::run_rest(
-        lens, ops, vals, lock, recs, THREADS, &cycle, 10, one.n, &mut trace,
+        lens, ops, vals, one.lock, one.recs, THREADS, &cycle, 10, one.n, &mut trace,
     );
     print_words(to, &trace);
     print_numbers(to, "run", one.n, one.done);
     print_numbers(to, "run", two.n, two.done);
-    let lock = two.lock;
-    let recs = two.recs;
-    finish(to, lens, ops, vals, lock, recs);
+    finish(to, lens, ops, vals, two.lock, two.recs);
 }
 
 fn finish(to: Stdout, lens: &[u64], ops: &[u64], vals: &[u64], lock: Lock, recs: [Rec; 16]) {
     let left = lock_held::drain(lens, ops, vals, lock, recs, THREADS);
-    let why = left.refusal;
-    print_numbers(to, "drain", why.number, left.n);
+    print_numbers(to, "drain", left.refusal.number, left.n);
     order(to, lens, ops, vals, lock, recs);
 }
 
@@ -88,8 +81,8 @@ fn records() -> [Rec; 16] {
 
 // Six words a line, and what is left on the last.
 fn print_words(to: Stdout, words: &[u64]) {
-    for i in 0..words.len() {
-        let _ = to.print(words[i]);
+    for (i, &word) in words.iter().enumerate() {
+        let _ = to.print(word);
         print_end(to, i + 1, words.len());
     }
 }
