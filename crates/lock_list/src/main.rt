@@ -37,6 +37,7 @@ fn main(rt: HostRuntime) {
 }
 
 // A chunk where the last one is used up, else bytes of it up to a line's end. A read that fails ends the list, and the number of rows then shows it.
+// In each program, as the loop: no equation says what it comes to, which a function of a library needs (tests/contracts.sh).
 fn read_on(
     mut input: Stdin,
     chunk: &mut [u8; 65536],

@@ -55,6 +55,7 @@ fn order_room() -> [u64; 3120]
 }
 
 // The lists have the places that the reader and drain need.
+// In each program, since no equation says what it comes to, which a function of a library needs (tests/contracts.sh).
 fn turns(
     input: Stdin,
     to: Outputs,

@@ -40,6 +40,7 @@ fn main(rt: HostRuntime) -> ExitCode {
 }
 
 // What as many rows as the list holds may change has room in the other; and the list has the places that the reader needs.
+// In each program, since no equation says what it comes to, which a function of a library needs (tests/contracts.sh).
 fn turns(
     input: Stdin,
     to: Outputs,

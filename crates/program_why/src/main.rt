@@ -27,6 +27,7 @@ fn main(rt: HostRuntime) -> ExitCode {
 }
 
 // The answers have room in the list, and the list for rows has the places that the reader needs.
+// In each program, since no equation says what it comes to, which a function of a library needs (tests/contracts.sh).
 fn turns(
     input: Stdin,
     to: Outputs,

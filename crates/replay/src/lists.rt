@@ -55,7 +55,7 @@ pub fn is_front(list: &[u8], front: &[u8], other: u8) -> bool
     true
 }
 
-// The same of numbers.
+// The same of numbers. Two functions, since `front_then`, of which `FrontAndRest` speaks, compares numbers, and a bound's `==` need not.
 pub fn are_front(list: &[u64], front: &[u64], other: u64) -> bool
     ensures { result ≡ front_then other list.now front.now }
 {

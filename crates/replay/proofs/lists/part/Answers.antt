@@ -8,8 +8,8 @@ pub returns-then-to-list : goal.returns-then-to-list
 returns-then-to-list g c =
     let a = c.args in
     elim c.then-to-list.branch [
-      then-to-list-via-then-to-list w ↦ sym (part_past a.list.now a.from a.to w.if-to-list.true)
-    | then-to-list-via-else-to-list+then-from-to w ↦ sym (part_turned a.list.now a.from a.to w.if-to-list.false w.if-from-to.true)
+      | then-to-list-via-then-to-list w ↦ sym (part_past a.list.now a.from a.to w.if-to-list.true)
+      | then-to-list-via-else-to-list+then-from-to w ↦ sym (part_turned a.list.now a.from a.to w.if-to-list.false w.if-from-to.true)
     ]
 
 pub returns : goal.returns
