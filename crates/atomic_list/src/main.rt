@@ -7,7 +7,6 @@
 
 use atomic::{CellId, Count};
 use atomic_access::{Answer, Did, Number, Perm, Value};
-use replay::numbers::Stored;
 use replay::reading::Reading;
 use replay::tally::Tally;
 use replay::{lists, numbers, reading, tally};
@@ -120,7 +119,7 @@ fn agrees(line: &[u8]) -> bool {
 // What follows the name is nine numbers and nothing more.
 fn is_row(width: u64, operation: &[u8], text: &[u8]) -> bool {
     let mut f = [0; NUMBERS];
-    let Stored::All(n) = numbers::numbers(text, &mut f) else {
+    let Some(n) = numbers::numbers(text, &mut f) else {
         return false;
     };
     n == NUMBERS && is_made(width, operation, f)

@@ -7,10 +7,8 @@
 
 use atomic::CellId;
 use cell::inv::Made;
-use cell::pred::Named;
 use cell::value::Perm;
 use cell::{Answer, Refusal, inv, pred, value};
-use replay::numbers::Stored;
 use replay::reading::Reading;
 use replay::tally::Tally;
 use replay::{numbers, reading, tally};
@@ -39,11 +37,11 @@ fn main(rt: HostRuntime) {
         reading = read_on(rt.stdin(), &mut chunk, &mut line, reading);
         state = on_line(out, &line, reading, state);
     }
-    let tally = state.tally;
-    report(out, reading, tally);
+    report(out, reading, state.tally);
 }
 
 // A chunk where the last one is used up, else bytes of it up to a line's end. A read that fails ends the list, and the number of rows then shows it.
+// In each program, as the loop: no equation says what it comes to, which a function of a library needs (tests/contracts.sh).
 fn read_on(
     mut input: Stdin,
     chunk: &mut [u8; 65536],
@@ -59,8 +57,7 @@ fn read_on(
 
 // The first line is the header. A row in its place would be missing from the number of rows.
 fn on_line(out: Stdout, line: &[u8; 65536], reading: Reading, state: State) -> State {
-    let cells = state.cells;
-    let tally = state.tally;
+    let State { cells, tally } = state;
     if !reading.done {
         return state;
     }
@@ -70,11 +67,10 @@ fn on_line(out: Stdout, line: &[u8; 65536], reading: Reading, state: State) -> S
             tally: tally::pass(tally),
         };
     }
-    let after = replay_text(cells, reading::text(line, reading));
-    let left = after.cells;
+    let (cells, is_equal) = replay_text(cells, reading::text(line, reading));
     State {
-        cells: left,
-        tally: tally::count(out, tally, after.is_equal),
+        cells,
+        tally: tally::count(out, tally, is_equal),
     }
 }
 
@@ -88,23 +84,42 @@ fn report(out: Stdout, reading: Reading, tally: Tally) {
 // The call, its operands, and what it comes to.
 const FIELDS: usize = 9;
 
-const PUT: u64 = 1;
+// A call of the list, by the number that the list has for it.
+#[derive(Clone, Copy)]
+enum Code {
+    Put,
+    Take,
+    Borrow,
+    New,
+    Set,
+    Replace,
+    Get,
+    IntoInner,
+    Predicate,
+}
 
-const TAKE: u64 = 2;
+// The number of no call.
+#[derive(Clone, Copy)]
+struct NoCall;
 
-const BORROW: u64 = 3;
+impl TryFrom<u64> for Code {
+    type Error = NoCall;
 
-const NEW: u64 = 4;
-
-const SET: u64 = 5;
-
-const REPLACE: u64 = 6;
-
-const GET: u64 = 7;
-
-const INTO_INNER: u64 = 8;
-
-const PREDICATE: u64 = 9;
+    fn try_from(number: u64) -> Result<Code, NoCall> {
+        match number {
+            1 => Ok(Code::Put),
+            2 => Ok(Code::Take),
+            3 => Ok(Code::Borrow),
+            4 => Ok(Code::New),
+            5 => Ok(Code::Set),
+            6 => Ok(Code::Replace),
+            7 => Ok(Code::Get),
+            8 => Ok(Code::IntoInner),
+            9 => Ok(Code::Predicate),
+            _ => Err(NoCall),
+        }
+    }
+}
 
 // What the calls follow each other on.
 #[derive(Clone, Copy)]
@@ -113,7 +128,7 @@ struct Cells {
     made: Made,
 }
 
-// The call and its operands. One that the call has no use for is 0.
+// The call's number and its operands. One that the call has no use for is 0.
 #[derive(Clone, Copy)]
 struct Call {
     code: u64,
@@ -124,25 +139,12 @@ struct Call {
 }
 
 // What a call comes to, in the columns of the list.
-#[derive(Clone, Copy)]
+#[derive(Clone, Copy, PartialEq, Eq)]
 struct Told {
     number: u64,
     got: u64,
     full: u64,
     kept: u64,
-}
-
-#[derive(Clone, Copy)]
-struct Replayed {
-    cells: Cells,
-    is_equal: bool,
-}
-
-// What a replay saw. There is none where the row is no call, or where there is no InvCell to call.
-#[derive(Clone, Copy)]
-enum Seen {
-    Told(Cells, Told),
-    Nothing,
 }
 
 // No cell holds anything before the first call.
@@ -159,104 +161,75 @@ fn no_cell() -> Made {
 
 // A line that is no row counts as different, and makes the call of the numbers that it has, so that the rows after it follow on what
 // they would. A row is below 200 bytes, so that the front of a line that has no room is none.
-fn replay_text(cells: Cells, text: &[u8]) -> Replayed {
+fn replay_text(cells: Cells, text: &[u8]) -> (Cells, bool) {
     let mut f = [0; FIELDS];
-    let is_row = match numbers::numbers(text, &mut f) {
-        Stored::All(n) => n == FIELDS,
-        Stored::Broken => false,
-    };
-    replay_row(cells, f, is_row)
-}
-
-fn replay_row(cells: Cells, f: [u64; FIELDS], is_row: bool) -> Replayed {
-    let call = Call {
-        code: f[0],
-        a: f[1],
-        b: f[2],
-        c: f[3],
-        d: f[4],
-    };
+    let is_row = numbers::numbers(text, &mut f) == Some(FIELDS);
+    let [code, a, b, c, d, number, got, full, kept] = f;
     let expected = Told {
-        number: f[5],
-        got: f[6],
-        full: f[7],
-        kept: f[8],
+        number,
+        got,
+        full,
+        kept,
     };
-    let Seen::Told(left, told) = make(cells, call) else {
-        return Replayed {
-            cells,
-            is_equal: false,
-        };
-    };
-    Replayed {
-        cells: left,
-        is_equal: is_row && is_same(told, expected),
+    match make(cells, Call { code, a, b, c, d }) {
+        Some((left, told)) => (left, is_row && told == expected),
+        None => (cells, false),
     }
 }
 
-fn is_same(a: Told, b: Told) -> bool {
-    a.number == b.number && a.got == b.got && a.full == b.full && a.kept == b.kept
-}
-
-fn make(cells: Cells, call: Call) -> Seen {
-    let code = call.code;
+// What a replay saw: none where the row is no call, or where there is no InvCell to call.
+fn make(cells: Cells, call: Call) -> Option<(Cells, Told)> {
+    let Ok(code) = Code::try_from(call.code) else {
+        return None;
+    };
     match code {
-        PUT => on_cell(cells, call),
-        TAKE => on_cell(cells, call),
-        BORROW => on_cell(cells, call),
-        NEW => new(cells, call),
-        PREDICATE => predicate(cells, call),
-        _ => on_inv(cells, call),
+        Code::Put | Code::Take | Code::Borrow => on_cell(cells, code, call),
+        Code::New => new(cells, call),
+        Code::Predicate => Some(predicate(cells, call)),
+        _ => on_inv(cells, code, call),
     }
 }
 
-fn on_cell(cells: Cells, call: Call) -> Seen {
-    let content = cells.content;
+fn on_cell(cells: Cells, code: Code, call: Call) -> Option<(Cells, Told)> {
     let perm = Perm {
         id: CellId(call.b),
-        content,
+        content: cells.content,
     };
     let c = CellId(call.a);
-    let code = call.code;
-    match code {
-        PUT => left_cell(cells, call.b, value::put(c, perm, call.c)),
-        TAKE => left_cell(cells, call.b, value::take(c, perm)),
-        _ => left_cell(cells, call.b, value::borrow(c, perm)),
-    }
+    let did = match code {
+        Code::Put => value::put(c, perm, call.c),
+        Code::Take => value::take(c, perm),
+        _ => value::borrow(c, perm),
+    };
+    left_cell(cells, call.b, did)
 }
 
 // No call changes the permission's identity.
-fn left_cell(cells: Cells, permission: u64, did: value::Did) -> Seen {
-    let perm = did.perm;
-    let id = perm.id;
+fn left_cell(cells: Cells, permission: u64, did: value::Did) -> Option<(Cells, Told)> {
+    let Perm { id, content } = did.perm;
     if id.0 != permission {
-        return Seen::Nothing;
+        return None;
     }
-    let content = perm.content;
-    let made = cells.made;
-    let answer = did.answer;
     let told = Told {
-        number: number_of(answer),
-        got: got_of(answer),
+        number: number_of(did.answer),
+        got: got_of(did.answer),
         full: is_full(content),
         kept: value::kept(content),
     };
-    Seen::Told(Cells { content, made }, told)
+    Some((Cells { content, ..cells }, told))
 }
 
 fn number_of(answer: Answer) -> u64 {
     match answer {
-        Answer::Value(_) => 0,
-        Answer::Stored => 0,
         Answer::Refused(why) => cell::number(why),
+        _ => 0,
     }
 }
 
 fn got_of(answer: Answer) -> u64 {
     match answer {
         Answer::Value(v) => v,
-        Answer::Stored => 0,
-        Answer::Refused(_) => 0,
+        _ => 0,
     }
 }
 
@@ -267,71 +240,64 @@ fn is_full(content: Option<u64>) -> u64 {
     }
 }
 
-fn new(cells: Cells, call: Call) -> Seen {
+fn new(cells: Cells, call: Call) -> Option<(Cells, Told)> {
     let Some(p) = pred::of_kind(call.a, call.b, call.c) else {
-        return Seen::Nothing;
+        return None;
     };
-    let content = cells.content;
     let made = inv::new(call.d, p);
-    match made {
-        Ok(_) => left_inv(content, made, 0, 0),
-        Err(why) => left_inv(content, made, cell::number(why), 0),
-    }
+    let number = match made {
+        Ok(_) => 0,
+        Err(why) => cell::number(why),
+    };
+    Some(left_inv(Cells { made, ..cells }, number, 0))
 }
 
 // An InvCell is looked into by `get`.
-fn left_inv(content: Option<u64>, made: Made, number: u64, got: u64) -> Seen {
-    match made {
-        Ok(c) => Seen::Told(
-            Cells { content, made },
-            Told {
-                number,
-                got,
-                full: 1,
-                kept: inv::get(c),
-            },
-        ),
-        Err(_) => Seen::Told(
-            Cells { content, made },
-            Told {
-                number,
-                got,
-                full: 0,
-                kept: 0,
-            },
-        ),
-    }
-}
-
-fn on_inv(cells: Cells, call: Call) -> Seen {
-    let content = cells.content;
-    let made = cells.made;
-    let Ok(c) = made else {
-        return Seen::Nothing;
+fn left_inv(cells: Cells, number: u64, got: u64) -> (Cells, Told) {
+    let (full, kept) = match cells.made {
+        Ok(c) => (1, inv::get(c)),
+        Err(_) => (0, 0),
     };
-    let code = call.code;
+    let told = Told {
+        number,
+        got,
+        full,
+        kept,
+    };
+    (cells, told)
+}
+
+fn on_inv(cells: Cells, code: Code, call: Call) -> Option<(Cells, Told)> {
+    let Ok(c) = cells.made else {
+        return None;
+    };
     match code {
-        SET => left_did(content, inv::set(c, call.a)),
-        REPLACE => left_did(content, inv::replace(c, call.a)),
-        GET => left_inv(content, made, 0, inv::get(c)),
-        INTO_INNER => left_inv(content, no_cell(), 0, inv::into_inner(c)),
-        _ => Seen::Nothing,
+        Code::Set => Some(left_did(cells, inv::set(c, call.a))),
+        Code::Replace => Some(left_did(cells, inv::replace(c, call.a))),
+        Code::Get => Some(left_inv(cells, 0, inv::get(c))),
+        _ => {
+            let made = no_cell();
+            Some(left_inv(Cells { made, ..cells }, 0, inv::into_inner(c)))
+        }
     }
 }
 
-fn left_did(content: Option<u64>, did: inv::Did) -> Seen {
-    let c = did.cell;
-    let answer = did.answer;
-    left_inv(content, Ok(c), number_of(answer), got_of(answer))
+fn left_did(cells: Cells, did: inv::Did) -> (Cells, Told) {
+    let made = Ok(did.cell);
+    left_inv(
+        Cells { made, ..cells },
+        number_of(did.answer),
+        got_of(did.answer),
+    )
 }
 
-fn predicate(cells: Cells, call: Call) -> Seen {
+fn predicate(cells: Cells, call: Call) -> (Cells, Told) {
     let told = match pred::of_kind(call.a, call.b, call.c) {
         Some(p) => Told {
             number: 0,
-            got: bit(pred::permits(p, call.d)),
+            got: u64::from(pred::permits(p, call.d)),
             full: 1,
-            kept: bit(pred::is_good(p)),
+            kept: u64::from(pred::is_good(p)),
         },
         None => Told {
             number: 0,
@@ -340,9 +306,5 @@ fn predicate(cells: Cells, call: Call) -> Seen {
             kept: 0,
         },
     };
-    Seen::Told(cells, told)
-}
-
-fn bit(b: bool) -> u64 {
-    if b { 1 } else { 0 }
+    (cells, told)
 }

@@ -5,6 +5,7 @@
 use atomic::Count;
 use cell::pred::Pred;
 use lock::run;
+use lock::run::RunReturn;
 use machine::{Lists, Lock, Place, Rec};
 use std::io::{Read, Stdin};
 
@@ -29,7 +30,6 @@ struct State {
     recs: [Rec; 16],
     entries: u64,
     accepted: u64,
-    at_end: bool,
 }
 
 fn main(rt: HostRuntime) {
@@ -38,19 +38,22 @@ fn main(rt: HostRuntime) {
     let mut state = begin();
     // A proved loop has to end, and nothing says that the input does: it takes as many turns as no run uses up.
     for _ in 0..u64::MAX {
-        if state.at_end {
+        let Some(next) = read_some(rt.stdin(), state, &schedule) else {
             break;
-        }
-        state = read_some(rt.stdin(), state, &schedule);
+        };
+        state = next;
     }
-    let entries = state.entries;
-    let accepted = state.accepted;
+    let State {
+        entries,
+        accepted,
+        ..
+    } = state;
     let _ = println!(rt; "{entries} entries, accepted {accepted}");
 }
 
 fn fill(schedule: &mut [u64]) {
-    for k in 0..schedule.len() {
-        schedule[k] = CYCLE[k % 10];
+    for (k, entry) in schedule.iter_mut().enumerate() {
+        *entry = CYCLE[k % 10];
     }
 }
 
@@ -78,21 +81,20 @@ fn begin() -> State {
         recs: [rec; 16],
         entries: 0,
         accepted: 0,
-        at_end: false,
     };
     let mut trace = [0u64; WORDS];
     round(state, &WARM, &mut trace)
 }
 
-// Reads once, and makes a round for each byte.
-fn read_some(mut input: Stdin, state: State, schedule: &[u64]) -> State {
+// Reads once, and makes a round for each byte. None at the end of the input.
+fn read_some(mut input: Stdin, state: State, schedule: &[u64]) -> Option<State> {
     let mut chunk = io::large_buffer();
     let n = input.read(&mut chunk).unwrap_or(0);
     if n == 0 {
-        return stop(state);
+        return None;
     }
     let mut trace = [0u64; WORDS];
-    rounds(state, n, schedule, &mut trace)
+    Some(rounds(state, n, schedule, &mut trace))
 }
 
 fn rounds(state: State, n: usize, schedule: &[u64], trace: &mut [u64]) -> State {
@@ -110,25 +112,11 @@ fn round(state: State, schedule: &[u64], trace: &mut [u64]) -> State {
         vals: &VALS,
     };
     let State { lock, recs, .. } = state;
-    let ran = run::run(lists, lock, recs, 3, schedule, u64::MAX, trace);
-    let recs = ran.recs;
+    let RunReturn { ran, recs } = run::run(lists, lock, recs, 3, schedule, u64::MAX, trace);
     State {
         lock: ran.lock,
         recs,
-        entries: std::num::wrapping_add_u64(state.entries, ran.n),
-        accepted: std::num::wrapping_add_u64(state.accepted, ran.done),
-        at_end: false,
-    }
-}
-
-fn stop(state: State) -> State {
-    let lock = state.lock;
-    let recs = state.recs;
-    State {
-        lock,
-        recs,
-        entries: state.entries,
-        accepted: state.accepted,
-        at_end: true,
+        entries: state.entries.wrapping_add(ran.n),
+        accepted: state.accepted.wrapping_add(ran.done),
     }
 }

@@ -5,71 +5,59 @@
 
 use atomic::Count;
 use cell::pred::Pred;
-use machine::{Lock, Place, Rec, Refusal};
+use lock::drain::Drained;
+use machine::{Lists, Lock, Place, Rec, Refusal};
 use std::io::Stdout;
 
 const THREADS: u64 = 3;
 
 fn main(rt: HostRuntime) {
     let to = rt.stdout();
-    let lens = [2u64, 2, 2];
-    let ops = [1u64, 3, 1, 3, 4, 5];
-    let vals = [0u64; 6];
-    let begun = lock_held::setup(
-        Pred::Any,
-        Count(2),
-        0,
-        &lens,
-        &ops,
-        &vals,
-        records(),
-        THREADS,
-    );
-    let start = begun.start;
-    let recs = begun.recs;
-    match start {
-        Ok(lock) => replay(to, &lens, &ops, &vals, lock, recs),
+    let lists = Lists {
+        lens: &[2, 2, 2],
+        ops: &[1, 3, 1, 3, 4, 5],
+        vals: &[0; 6],
+    };
+    let begun = lock_held::setup(Pred::Any, Count(2), 0, lists, records(), THREADS);
+    match begun.start {
+        Ok(lock) => replay(to, lists, lock, begun.recs),
         Err(why) => refused(to, why),
     }
 }
 
 // After 0, 0, 2 the second piece, a cycle, comes back to the same state.
-fn replay(to: Stdout, lens: &[u64], ops: &[u64], vals: &[u64], lock: Lock, recs: [Rec; 16]) {
+fn replay(to: Stdout, lists: Lists, lock: Lock, recs: [Rec; 16]) {
     let mut trace = [99u64; 80];
     let first = [0u64, 0, 2];
-    let one = lock_held::run(lens, ops, vals, lock, recs, THREADS, &first, 3, &mut trace);
-    let lock = one.lock;
-    let recs = one.recs;
+    let one = lock_held::run(lists, lock, recs, THREADS, &first, 3, &mut trace);
     let cycle = [1u64, 1, 0, 0, 2, 0, 0, 1, 1, 2];
     let two = lock_held::run_rest(
-        lens, ops, vals, lock, recs, THREADS, &cycle, 10, one.n, &mut trace,
+        lists, one.ran.lock, one.recs, THREADS, &cycle, 10, one.ran.n, &mut trace,
     );
     print_words(to, &trace);
-    print_numbers(to, "run", one.n, one.done);
-    print_numbers(to, "run", two.n, two.done);
-    let lock = two.lock;
-    let recs = two.recs;
-    finish(to, lens, ops, vals, lock, recs);
+    print_numbers(to, "run", one.ran.n, one.ran.done);
+    print_numbers(to, "run", two.ran.n, two.ran.done);
+    finish(to, lists, two.ran.lock, two.recs);
 }
 
-fn finish(to: Stdout, lens: &[u64], ops: &[u64], vals: &[u64], lock: Lock, recs: [Rec; 16]) {
-    let left = lock_held::drain(lens, ops, vals, lock, recs, THREADS);
-    let why = left.refusal;
-    print_numbers(to, "drain", why.number, left.n);
-    order(to, lens, ops, vals, lock, recs);
+fn finish(to: Stdout, lists: Lists, lock: Lock, recs: [Rec; 16]) {
+    let left = lock_held::drain(lists, lock, recs, THREADS);
+    let Drained { refusal, n, .. } = left.drained;
+    print_numbers(to, "drain", refusal.map_or(0, |why| why.number), n);
+    order(to, lists, lock, recs);
 }
 
 // The entries of that drain, from where it began, and a run of them.
-fn order(to: Stdout, lens: &[u64], ops: &[u64], vals: &[u64], lock: Lock, recs: [Rec; 16]) {
+fn order(to: Stdout, lists: Lists, lock: Lock, recs: [Rec; 16]) {
     let mut out = [99u64; 18];
-    let asked = lock_order::drain_order(lens, ops, vals, lock, recs, THREADS, &mut out);
+    let asked = lock_order::drain_order(lists, lock, recs, THREADS, &mut out);
     print_numbers(to, "order", asked.n, asked.bound);
     print_words(to, &out);
     let mut trace = [99u64; 84];
-    let ran = lock_held::run(
-        lens, ops, vals, lock, recs, THREADS, &out, asked.n, &mut trace,
+    let left = lock_held::run(
+        lists, lock, recs, THREADS, &out, asked.n, &mut trace,
     );
-    print_numbers(to, "run", ran.n, ran.done);
+    print_numbers(to, "run", left.ran.n, left.ran.done);
 }
 
 fn refused(to: Stdout, why: Refusal) {
@@ -88,8 +76,8 @@ fn records() -> [Rec; 16] {
 
 // Six words a line, and what is left on the last.
 fn print_words(to: Stdout, words: &[u64]) {
-    for i in 0..words.len() {
-        let _ = to.print(words[i]);
+    for (i, &word) in words.iter().enumerate() {
+        let _ = to.print(word);
         print_end(to, i + 1, words.len());
     }
 }

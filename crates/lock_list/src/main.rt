@@ -7,16 +7,12 @@
 #![tactic(auto)]
 
 use atomic::Count;
-use cell::pred::{Named, Pred};
+use cell::pred::Pred;
 use cell::{pred, value};
-use lock::drain::DrainReturn;
-use lock::run::RunReturn;
-use lock::setup::Begun;
 use lock::{drain, run, setup};
 use lock_words::names::UNSOUND;
-use machine::{Lock, Place, Rec, Refusal};
+use machine::{Lists, Lock, Place, Rec, Refusal};
 use replay::lists::{is_same, word};
-use replay::numbers::Stored;
 use replay::reading::Reading;
 use replay::tally::{Tally, Verdict};
 use replay::{lists, numbers, reading, tally};
@@ -40,6 +36,7 @@ fn main(rt: HostRuntime) {
 }
 
 // A chunk where the last one is used up, else bytes of it up to a line's end. A read that fails ends the list, and the number of rows then shows it.
+// In each program, as the loop: no equation says what it comes to, which a function of a library needs (tests/contracts.sh).
 fn read_on(
     mut input: Stdin,
     chunk: &mut [u8; 65536],
@@ -81,11 +78,19 @@ fn report(out: Stdout, reading: Reading, tally: Tally) {
 }
 
 fn verdict_on(text: &[u8]) -> Verdict {
-    let mut line = [0; ROOM];
-    let Stored::All(n) = numbers::numbers(text, &mut line) else {
+    let mut words = [0; ROOM];
+    let Some(n) = numbers::numbers(text, &mut words) else {
         return Verdict::Unreadable;
     };
-    replay_line(lists::words(&line, 0, n))
+    let words = lists::part(&words, 0, n);
+    let line = Line {
+        words,
+        parts: parts_of(words),
+    };
+    match given_by(line) {
+        Ok(given) => replay_call(line, given),
+        Err(verdict) => verdict,
+    }
 }
 
 // The call of a line, made by value and with the records lent, and compared with what the line says of it.
@@ -96,323 +101,217 @@ const ROOM: usize = 2600;
 // Room for a trace list, or one of entries. The longest of the list has 68 words; a line with a longer one than the room counts as different.
 const TRACE: usize = 128;
 
-// What a call comes to. Where a setup is refused there is no lock, and the one here does not count.
+// What a call comes to.
 #[derive(Clone, Copy)]
 struct Told {
-    is_made: bool,
-    refusal: Refusal,
+    refusal: Option<Refusal>,
     n: u64,
     done: u64,
-    lock: Lock,
+    // None where a setup is refused.
+    lock: Option<Lock>,
     recs: [Rec; 16],
 }
 
-fn replay_line(line: &[u64]) -> Verdict {
-    let p = parts_of(line);
-    if !are_whole(line, p) {
-        return Verdict::Unreadable;
-    }
-    match lock_before(line, p) {
-        Before::Is(lock) => replay_call(line, p, call_on(line, p, lock)),
-        Before::NoSuchState => Verdict::Outside,
-        Before::Broken => Verdict::Unreadable,
-    }
-}
-
 // By value, and with the records lent.
-fn replay_call(line: &[u64], p: Parts, given: Given) -> Verdict {
-    if agrees(line, p, given, false) && agrees(line, p, given, true) {
+fn replay_call(line: Line, given: Given) -> Verdict {
+    if agrees(line, given, false) && agrees(line, given, true) {
         Verdict::Agrees
     } else {
         Verdict::Differs
     }
 }
 
-fn agrees(line: &[u64], p: Parts, given: Given, is_lent: bool) -> bool {
-    let mut trace = [0u64; TRACE];
-    let before = trace_of(line, p);
+fn agrees(line: Line, given: Given, is_lent: bool) -> bool {
+    let mut room = [0u64; TRACE];
+    let before = line.trace();
     let n = before.len();
     if n > TRACE {
         return false;
     }
-    agrees_with(line, p, given, is_lent, &mut trace[..n])
+    let trace = &mut room[..n];
+    trace.copy_from_slice(before);
+    let told = made(line, given, is_lent, trace);
+    is_told(line, given, told) && is_same(trace, line.trace_after())
 }
 
-fn agrees_with(line: &[u64], p: Parts, given: Given, is_lent: bool, trace: &mut [u64]) -> bool {
-    load(trace, trace_of(line, p));
-    let told = made(line, p, given, is_lent, trace);
-    is_told(line, p, given, told) && is_same(trace, trace_after(line, p))
-}
-
-// The trace list as it is before the call.
-fn load(trace: &mut [u64], before: &[u64]) {
-    for i in 0..before.len() {
-        if i >= trace.len() {
-            return;
-        }
-        trace[i] = before[i];
+fn made(line: Line, given: Given, is_lent: bool, trace: &mut [u64]) -> Told {
+    match given.call {
+        Call::Setup => set_up(line, given, is_lent),
+        Call::Run => ran(line, given, is_lent, trace),
+        Call::Drain => drained(line, given, is_lent),
+        Call::Order => ordered(line, given, trace),
+        Call::Why => asked(line, given),
     }
 }
 
-fn made(line: &[u64], p: Parts, given: Given, is_lent: bool, trace: &mut [u64]) -> Told {
-    let call = given.call;
-    if call == ORDER {
-        return ordered(line, p, given, trace);
-    }
-    if call == WHY {
-        return asked(line, p, given);
-    }
-    if is_lent {
-        return match call {
-            SETUP => set_up_lent(line, p, given),
-            DRAIN => drained_lent(line, p, given),
-            _ => ran_lent(line, p, given, trace),
-        };
-    }
-    match call {
-        SETUP => set_up(line, p, given),
-        DRAIN => drained(line, p, given),
-        _ => ran(line, p, given, trace),
-    }
-}
-
-fn set_up(line: &[u64], p: Parts, given: Given) -> Told {
-    let lock = given.lock;
-    let pred = lock.pred;
-    let top = lock.top;
-    let cell = lock.cell;
-    let first = value::kept(cell);
-    let recs = given.recs;
-    let begun = setup::setup(
+fn set_up(line: Line, given: Given, is_lent: bool) -> Told {
+    let Lock {
         pred,
         top,
-        first,
-        lens_of(line, p),
-        ops_of(line, p),
-        vals_of(line, p),
-        recs,
-        given.count,
-    );
-    after_setup(begun, lock)
-}
-
-fn set_up_lent(line: &[u64], p: Parts, given: Given) -> Told {
-    let lock = given.lock;
-    let pred = lock.pred;
-    let top = lock.top;
-    let cell = lock.cell;
+        cell,
+        ..
+    } = given.lock;
     let first = value::kept(cell);
-    let recs = given.recs;
-    let begun = lock_held::setup(
-        pred,
-        top,
-        first,
-        lens_of(line, p),
-        ops_of(line, p),
-        vals_of(line, p),
-        recs,
-        given.count,
-    );
-    after_setup(begun, lock)
-}
-
-fn after_setup(begun: Begun, given: Lock) -> Told {
+    let lists = line.scripts();
+    let Given { recs, count, .. } = given;
+    let begun = if is_lent {
+        lock_held::setup(pred, top, first, lists, recs, count)
+    } else {
+        setup::setup(pred, top, first, lists, recs, count)
+    };
     let recs = begun.recs;
-    let start = begun.start;
-    match start {
-        Ok(lock) => told_by(true, not_refused(), 0, 0, lock, recs),
-        Err(why) => told_by(false, why, 0, 0, given, recs),
+    let (lock, refusal) = match begun.start {
+        Ok(lock) => (Some(lock), None),
+        Err(why) => (None, Some(why)),
+    };
+    Told {
+        refusal,
+        n: 0,
+        done: 0,
+        lock,
+        recs,
     }
 }
 
-fn ran(line: &[u64], p: Parts, given: Given, trace: &mut [u64]) -> Told {
-    let lock = given.lock;
-    let recs = given.recs;
-    let left = run::run(
-        lens_of(line, p),
-        ops_of(line, p),
-        vals_of(line, p),
+fn ran(line: Line, given: Given, is_lent: bool, trace: &mut [u64]) -> Told {
+    let lists = line.scripts();
+    let schedule = line.schedule();
+    let Given {
         lock,
         recs,
-        given.count,
-        schedule_of(line, p),
-        given.budget,
-        trace,
-    );
-    after_run(left)
-}
-
-fn ran_lent(line: &[u64], p: Parts, given: Given, trace: &mut [u64]) -> Told {
-    let lock = given.lock;
-    let recs = given.recs;
-    let left = lock_held::run(
-        lens_of(line, p),
-        ops_of(line, p),
-        vals_of(line, p),
-        lock,
-        recs,
-        given.count,
-        schedule_of(line, p),
-        given.budget,
-        trace,
-    );
-    after_run(left)
-}
-
-fn after_run(left: RunReturn) -> Told {
-    let refusal = left.refusal;
-    let lock = left.lock;
+        count,
+        budget,
+        ..
+    } = given;
+    let left = if is_lent {
+        lock_held::run(lists, lock, recs, count, schedule, budget, trace)
+    } else {
+        run::run(lists, lock, recs, count, schedule, budget, trace)
+    };
     let recs = left.recs;
-    told_by(true, refusal, left.n, left.done, lock, recs)
+    Told {
+        refusal: left.ran.refusal,
+        n: left.ran.n,
+        done: left.ran.done,
+        lock: Some(left.ran.lock),
+        recs,
+    }
 }
 
-fn drained(line: &[u64], p: Parts, given: Given) -> Told {
-    let lock = given.lock;
-    let recs = given.recs;
-    let left = drain::drain(
-        lens_of(line, p),
-        ops_of(line, p),
-        vals_of(line, p),
+fn drained(line: Line, given: Given, is_lent: bool) -> Told {
+    let lists = line.scripts();
+    let Given {
         lock,
         recs,
-        given.count,
-    );
-    after_drain(left)
-}
-
-fn drained_lent(line: &[u64], p: Parts, given: Given) -> Told {
-    let lock = given.lock;
-    let recs = given.recs;
-    let left = lock_held::drain(
-        lens_of(line, p),
-        ops_of(line, p),
-        vals_of(line, p),
-        lock,
-        recs,
-        given.count,
-    );
-    after_drain(left)
-}
-
-fn after_drain(left: DrainReturn) -> Told {
-    let refusal = left.refusal;
-    let lock = left.lock;
+        count,
+        ..
+    } = given;
+    let left = if is_lent {
+        lock_held::drain(lists, lock, recs, count)
+    } else {
+        drain::drain(lists, lock, recs, count)
+    };
     let recs = left.recs;
-    told_by(true, refusal, left.n, 0, lock, recs)
+    Told {
+        refusal: left.drained.refusal,
+        n: left.drained.n,
+        done: 0,
+        lock: Some(left.drained.lock),
+        recs,
+    }
 }
 
 // There is one form of it. The bound stands where a run has its rows with answer 0; lock and records are as they were.
-fn ordered(line: &[u64], p: Parts, given: Given, out: &mut [u64]) -> Told {
-    let lock = given.lock;
-    let recs = given.recs;
-    let left = lock_order::drain_order(
-        lens_of(line, p),
-        ops_of(line, p),
-        vals_of(line, p),
+fn ordered(line: Line, given: Given, out: &mut [u64]) -> Told {
+    let lists = line.scripts();
+    let Given {
         lock,
         recs,
-        given.count,
-        out,
-    );
-    let refusal = left.refusal;
-    told_by(true, refusal, left.n, left.bound, lock, recs)
+        count,
+        ..
+    } = given;
+    let left = lock_order::drain_order(lists, lock, recs, count, out);
+    Told {
+        refusal: left.refusal,
+        n: left.n,
+        done: left.bound,
+        lock: Some(lock),
+        recs,
+    }
 }
 
 // Of the thread that stands in the schedule's place, with the records by value: covered code cannot lend a list of them. The reason's number stands
 // where a run has n, and the record's where it has its rows with answer 0.
-fn asked(line: &[u64], p: Parts, given: Given) -> Told {
-    let lock = given.lock;
-    let recs = given.recs;
-    let told = why_code::why(
-        lens_of(line, p),
-        ops_of(line, p),
-        vals_of(line, p),
+fn asked(line: Line, given: Given) -> Told {
+    let lists = line.scripts();
+    let Given {
         lock,
         recs,
-        given.count,
-        word(schedule_of(line, p), 0),
-    );
+        count,
+        ..
+    } = given;
+    let told = why_code::why(lists, lock, recs, count, word(line.schedule(), 0));
     let numbers = why_code::numbers_of(told);
-    let refusal = refusal_in(told);
-    told_by(true, refusal, numbers.reason, numbers.who, lock, recs)
-}
-
-fn refusal_in(told: why::Told) -> Refusal {
-    match told {
-        why::Told::Refused(no) => no,
-        why::Told::Given(_) => not_refused(),
-    }
-}
-
-fn not_refused() -> Refusal {
-    Refusal {
-        number: 0,
-        thread: 0,
-        place: 0,
-    }
-}
-
-fn told_by(
-    is_made: bool,
-    refusal: Refusal,
-    n: u64,
-    done: u64,
-    lock: Lock,
-    recs: [Rec; 16],
-) -> Told {
     Told {
-        is_made,
-        refusal,
-        n,
-        done,
-        lock,
+        refusal: told.err(),
+        n: numbers.reason,
+        done: numbers.who,
+        lock: Some(lock),
         recs,
     }
 }
 
-fn is_told(line: &[u64], p: Parts, given: Given, told: Told) -> bool {
-    let refusal = told.refusal;
-    let answer = [
-        refusal.number,
-        refusal.thread,
-        refusal.place,
-        told.n,
-        told.done,
-    ];
-    let recs = told.recs;
-    let recs_after = lists::words(line, p.recs_after, p.trace_after);
-    is_same(&answer, lists::words(line, p.answer, p.lock_after))
-        && is_lock(line, p, told)
-        && word(recs_after, 0) == given.count
-        && are_records(recs, recs_after)
+fn is_told(line: Line, given: Given, told: Told) -> bool {
+    let [number, thread, place] = match told.refusal {
+        Some(why) => [why.number, why.thread, why.place],
+        None => [0; 3],
+    };
+    let answer = [number, thread, place, told.n, told.done];
+    is_same(&answer, line.answer())
+        && is_lock(line, told.lock)
+        && word(line.recs_after(), 0) == given.count
+        && are_records(told.recs, line.recs_after())
 }
 
 // Where no lock is made the list has zeros.
-fn is_lock(line: &[u64], p: Parts, told: Told) -> bool {
-    let after = lists::words(line, p.lock_after, p.recs_after);
-    let zeros = [0u64; LOCK];
-    if !told.is_made {
-        return is_same(&zeros, after);
-    }
-    let lock = told.lock;
-    let numbers = numbers_of(lock, lists::words(line, p.lock, p.recs));
-    is_same(&numbers, after)
+fn is_lock(line: Line, made: Option<Lock>) -> bool {
+    let numbers = match made {
+        Some(lock) => numbers_of(lock, line.lock()),
+        None => [0u64; LOCK],
+    };
+    is_same(&numbers, line.lock_after())
 }
 
 // The state that a line has before its call, and what a call leaves, as the numbers of the list.
 
-const SETUP: u64 = 1;
+// A call, by the number that the list has for it.
+#[derive(Clone, Copy, PartialEq, Eq)]
+enum Call {
+    Setup,
+    Run,
+    Drain,
+    Order,
+    Why,
+}
 
-const RUN: u64 = 2;
+// The number of no call.
+#[derive(Clone, Copy)]
+struct NoCall;
 
-const DRAIN: u64 = 3;
+impl TryFrom<u64> for Call {
+    type Error = NoCall;
 
-const ORDER: u64 = 4;
-
-const WHY: u64 = 5;
-
-// The number of the last place, WritePut. Numbers above it name no place.
-const LAST_PLACE: u64 = 8;
+    fn try_from(number: u64) -> Result<Call, NoCall> {
+        match number {
+            1 => Ok(Call::Setup),
+            2 => Ok(Call::Run),
+            3 => Ok(Call::Drain),
+            4 => Ok(Call::Order),
+            5 => Ok(Call::Why),
+            _ => Err(NoCall),
+        }
+    }
+}
 
 // As many records as an array has. Calls with more are refused, and only their count is read.
 const MOST: usize = 16;
@@ -420,51 +319,37 @@ const MOST: usize = 16;
 // What a call is given besides the lists. A setup's first value is what the cell holds.
 #[derive(Clone, Copy)]
 struct Given {
-    call: u64,
+    call: Call,
     lock: Lock,
     recs: [Rec; 16],
     count: u64,
     budget: u64,
 }
 
-// The lock before a call.
-#[derive(Clone, Copy)]
-enum Before {
-    Is(Lock),
-    // An empty cell that keeps a number: the type has none, and the list has 10 for it.
-    NoSuchState,
-    Broken,
-}
-
-fn lock_before(line: &[u64], p: Parts) -> Before {
-    let call = word(line, 1);
-    let numbers = lists::words(line, p.lock, p.recs);
-    let recs = lists::words(line, p.recs, p.lens);
-    if !is_call(call) || !are_bits(numbers) || !are_places(recs) {
-        return Before::Broken;
+// Or the verdict on a line that no call is made of: it cannot be read, or its cell is empty and keeps a number, which no value of the type is; the list
+// has 10 for that.
+fn given_by(line: Line) -> Result<Given, Verdict> {
+    let Ok(call) = Call::try_from(word(line.words, 1)) else {
+        return Err(Verdict::Unreadable);
+    };
+    let numbers = line.lock();
+    let recs = line.recs();
+    if !line.is_whole() || !are_bits(numbers) || !are_places(recs) {
+        return Err(Verdict::Unreadable);
     }
-    if call != SETUP && keeps(numbers) {
-        return ruled_out(word(line, p.answer));
+    if call != Call::Setup && keeps(numbers) {
+        return Err(ruled_out(word(line.answer(), 0)));
     }
-    match pred_of(numbers) {
-        Some(pred) => Before::Is(lock_of(numbers, pred, cell_of(numbers, call))),
-        None => Before::Broken,
-    }
-}
-
-fn call_on(line: &[u64], p: Parts, lock: Lock) -> Given {
-    let numbers = lists::words(line, p.recs, p.lens);
-    Given {
-        call: word(line, 1),
-        lock,
-        recs: recs_of(numbers),
-        count: word(numbers, 0),
-        budget: word(line, p.budget),
-    }
-}
-
-fn is_call(call: u64) -> bool {
-    call == SETUP || call == RUN || call == DRAIN || call == ORDER || call == WHY
+    let Some(pred) = pred_of(numbers) else {
+        return Err(Verdict::Unreadable);
+    };
+    Ok(Given {
+        call,
+        lock: lock_of(numbers, pred, cell_of(numbers, call)),
+        recs: recs_of(recs),
+        count: word(recs, 0),
+        budget: line.budget(),
+    })
 }
 
 // The flag, whether the cell is full, whether there is a mover and whether the lock is finished are 1 or 0; where there is no mover, its
@@ -476,18 +361,12 @@ fn are_bits(numbers: &[u64]) -> bool {
     flags && is_mover && word(numbers, 12) <= 1
 }
 
+// The place is the second number of each record, behind how many records there are.
 fn are_places(recs: &[u64]) -> bool {
-    let mut i = 2;
-    while i < recs.len() {
-        if recs[i] > LAST_PLACE {
-            return false;
-        }
-        if recs.len() - i <= RECORD {
-            return true;
-        }
-        i += RECORD;
-    }
-    true
+    recs.iter()
+        .skip(2)
+        .step_by(RECORD)
+        .all(|&number| place_of(number).is_some())
 }
 
 // An empty cell that keeps a number.
@@ -495,20 +374,20 @@ fn keeps(numbers: &[u64]) -> bool {
     word(numbers, 2) == 0 && word(numbers, 3) != 0
 }
 
-fn ruled_out(number: u64) -> Before {
+fn ruled_out(number: u64) -> Verdict {
     if number == UNSOUND {
-        Before::NoSuchState
+        Verdict::Outside
     } else {
-        Before::Broken
+        Verdict::Unreadable
     }
 }
 
-fn pred_of(numbers: &[u64]) -> Named {
+fn pred_of(numbers: &[u64]) -> Option<Pred> {
     pred::of_kind(word(numbers, 4), word(numbers, 5), word(numbers, 6))
 }
 
-fn cell_of(numbers: &[u64], call: u64) -> Option<u64> {
-    if call == SETUP || word(numbers, 2) == 1 {
+fn cell_of(numbers: &[u64], call: Call) -> Option<u64> {
+    if call == Call::Setup || word(numbers, 2) == 1 {
         Some(word(numbers, 3))
     } else {
         None
@@ -540,8 +419,8 @@ fn lock_of(numbers: &[u64], pred: Pred, cell: Option<u64>) -> Lock {
 // Records that the list lacks are Idle, with 0 for each number.
 fn recs_of(numbers: &[u64]) -> [Rec; 16] {
     let mut recs = [lock_words::plain(0, Place::Idle); 16];
-    for i in 0..MOST {
-        recs[i] = rec_of(rec_part(numbers, i));
+    for (i, rec) in recs.iter_mut().enumerate() {
+        *rec = rec_of(rec_part(numbers, i));
     }
     recs
 }
@@ -549,81 +428,72 @@ fn recs_of(numbers: &[u64]) -> [Rec; 16] {
 // The numbers of record i; none where the list has no such record.
 fn rec_part(numbers: &[u64], i: usize) -> &[u64] {
     if i >= MOST {
-        return lists::words(numbers, 0, 0);
+        return lists::part(numbers, 0, 0);
     }
     let from = RECORD * i + 1;
-    lists::words(numbers, from, from + RECORD)
+    lists::part(numbers, from, from + RECORD)
 }
 
 fn rec_of(numbers: &[u64]) -> Rec {
-    let place = place_of(word(numbers, 1));
+    let place = place_of(word(numbers, 1)).unwrap_or(Place::Idle);
     let seen = Count(word(numbers, 2));
     lock_words::rec_at(word(numbers, 0), place, seen, word(numbers, 3))
 }
 
-// A number that names no place is not asked for.
-fn place_of(number: u64) -> Place {
+// None where the number names no place.
+fn place_of(number: u64) -> Option<Place> {
     match number {
-        1 => Place::ReadTry,
-        2 => Place::ReadCheck,
-        3 => Place::ReadBack,
-        4 => Place::Reading,
-        5 => Place::WriteWait,
-        6 => Place::WriteTake,
-        7 => Place::Writing,
-        8 => Place::WritePut,
-        _ => Place::Idle,
+        0 => Some(Place::Idle),
+        1 => Some(Place::ReadTry),
+        2 => Some(Place::ReadCheck),
+        3 => Some(Place::ReadBack),
+        4 => Some(Place::Reading),
+        5 => Some(Place::WriteWait),
+        6 => Some(Place::WriteTake),
+        7 => Some(Place::Writing),
+        8 => Some(Place::WritePut),
+        _ => None,
     }
 }
 
 // Whether the records are those of the list, as far as both have them.
 fn are_records(recs: [Rec; 16], numbers: &[u64]) -> bool {
-    for i in 0..MOST {
-        let rec = recs[i];
-        if !is_record(rec, rec_part(numbers, i)) {
-            return false;
-        }
-    }
-    true
+    recs.iter()
+        .enumerate()
+        .all(|(i, &rec)| is_record(rec, rec_part(numbers, i)))
 }
 
 fn is_record(rec: Rec, numbers: &[u64]) -> bool {
-    let place = rec.place;
-    let seen = rec.seen;
     rec.at == word(numbers, 0)
-        && is_place(place, word(numbers, 1))
-        && seen.0 == word(numbers, 2)
+        && is_place(rec.place, word(numbers, 1))
+        && rec.seen.0 == word(numbers, 2)
         && rec.taken == word(numbers, 3)
 }
 
 fn is_place(place: Place, number: u64) -> bool {
-    number <= LAST_PLACE && lock_words::is(place, place_of(number))
+    match place_of(number) {
+        Some(named) => lock_words::is(place, named),
+        None => false,
+    }
 }
 
 // A lock as the list has it. A parameter that its predicate has no use for is as it was given.
 fn numbers_of(lock: Lock, given: &[u64]) -> [u64; LOCK] {
-    let rc = lock.rc;
-    let top = lock.top;
-    let reads = lock.reads;
-    let writes = lock.writes;
-    let cell = lock.cell;
-    let pred = lock.pred;
-    let mover = lock.mover;
-    let named = named_by(pred, word(given, 5), word(given, 6));
+    let [kind, a, b] = named_by(lock.pred, word(given, 5), word(given, 6));
     [
-        lock_words::bit(lock.exc),
-        rc.0,
-        lock_words::full(cell),
-        value::kept(cell),
-        named[0],
-        named[1],
-        named[2],
-        top.0,
-        reads.0,
-        writes.0,
-        lock_words::moving(mover),
-        moved_by(mover),
-        lock_words::bit(lock.finished),
+        u64::from(lock.exc),
+        lock.rc.0,
+        lock_words::full(lock.cell),
+        value::kept(lock.cell),
+        kind,
+        a,
+        b,
+        lock.top.0,
+        lock.reads.0,
+        lock.writes.0,
+        lock_words::moving(lock.mover),
+        moved_by(lock.mover),
+        u64::from(lock.finished),
     ]
 }
 
@@ -672,6 +542,13 @@ struct Parts {
     end: usize,
 }
 
+// The numbers of a line, and where its parts stand.
+#[derive(Clone, Copy)]
+struct Line<'a> {
+    words: &'a [u64],
+    parts: Parts,
+}
+
 fn parts_of(line: &[u64]) -> Parts {
     let lock = 2;
     let recs = skip(line, lock, LOCK);
@@ -702,38 +579,67 @@ fn parts_of(line: &[u64]) -> Parts {
     }
 }
 
-// A line has all its parts and nothing more.
-fn are_whole(line: &[u64], p: Parts) -> bool {
-    p.end == line.len()
-}
+impl<'a> Line<'a> {
+    // A line has all its parts and nothing more.
+    fn is_whole(self) -> bool {
+        self.parts.end == self.words.len()
+    }
 
-// The elements of a LIST that starts at a place and ends at another.
-fn list(line: &[u64], from: usize, to: usize) -> &[u64] {
-    lists::words(line, skip(line, from, 1), to)
-}
+    // The elements of a LIST that starts at a place and ends at another.
+    fn list(self, from: usize, to: usize) -> &'a [u64] {
+        lists::part(self.words, skip(self.words, from, 1), to)
+    }
 
-fn lens_of(line: &[u64], p: Parts) -> &[u64] {
-    list(line, p.lens, p.ops)
-}
+    fn lock(self) -> &'a [u64] {
+        lists::part(self.words, self.parts.lock, self.parts.recs)
+    }
 
-fn ops_of(line: &[u64], p: Parts) -> &[u64] {
-    list(line, p.ops, p.vals)
-}
+    fn recs(self) -> &'a [u64] {
+        lists::part(self.words, self.parts.recs, self.parts.lens)
+    }
 
-fn vals_of(line: &[u64], p: Parts) -> &[u64] {
-    list(line, p.vals, p.schedule)
-}
+    fn scripts(self) -> Lists<'a> {
+        let Parts {
+            lens,
+            ops,
+            vals,
+            schedule,
+            ..
+        } = self.parts;
+        Lists {
+            lens: self.list(lens, ops),
+            ops: self.list(ops, vals),
+            vals: self.list(vals, schedule),
+        }
+    }
 
-fn schedule_of(line: &[u64], p: Parts) -> &[u64] {
-    list(line, p.schedule, p.budget)
-}
+    fn schedule(self) -> &'a [u64] {
+        self.list(self.parts.schedule, self.parts.budget)
+    }
 
-fn trace_of(line: &[u64], p: Parts) -> &[u64] {
-    list(line, p.trace, p.answer)
-}
+    fn budget(self) -> u64 {
+        word(self.words, self.parts.budget)
+    }
 
-fn trace_after(line: &[u64], p: Parts) -> &[u64] {
-    list(line, p.trace_after, p.end)
+    fn trace(self) -> &'a [u64] {
+        self.list(self.parts.trace, self.parts.answer)
+    }
+
+    fn answer(self) -> &'a [u64] {
+        lists::part(self.words, self.parts.answer, self.parts.lock_after)
+    }
+
+    fn lock_after(self) -> &'a [u64] {
+        lists::part(self.words, self.parts.lock_after, self.parts.recs_after)
+    }
+
+    fn recs_after(self) -> &'a [u64] {
+        lists::part(self.words, self.parts.recs_after, self.parts.trace_after)
+    }
+
+    fn trace_after(self) -> &'a [u64] {
+        self.list(self.parts.trace_after, self.parts.end)
+    }
 }
 
 // The place that lies so many numbers further on.

@@ -31,13 +31,7 @@ pub fn unread() -> Input
 pub fn stays(i: Input) -> bool
     ensures { result ≡ stays i }
 {
-    if i.last {
-        return true;
-    }
-    if i.failed {
-        return true;
-    }
-    i.from < i.len
+    i.last || i.failed || i.from < i.len
 }
 
 // After a read of n bytes, or one that failed.
@@ -56,16 +50,14 @@ pub fn after_read(n: usize, failed: bool) -> Input
 pub fn taken_to(i: Input, from: usize) -> Input
     ensures { result ≡ taken_to i from }
 {
-    let mut t = i;
-    t.from = from;
-    t
+    Input { from, ..i }
 }
 
 // The first n bytes, as far as there are bytes.
 pub fn front(list: &[u8], n: usize) -> &[u8]
     ensures { result.now ≡ take (min n (length list.now)) list.now }
 {
-    let m = smaller(n, list.len());
+    let m = n.min(list.len());
     &list[..m]
 }
 
@@ -73,14 +65,5 @@ pub fn front(list: &[u8], n: usize) -> &[u8]
 fn is_end(n: usize, failed: bool) -> bool
     ensures { result ≡ ended_by n failed }
 {
-    if failed {
-        return false;
-    }
-    n == 0
-}
-
-fn smaller(a: usize, b: usize) -> usize
-    ensures { result ≡ min a b }
-{
-    if a < b { a } else { b }
+    !failed && n == 0
 }

@@ -1,2 +1,3 @@
 pub mod Intake
 pub mod Laws
+pub mod Room

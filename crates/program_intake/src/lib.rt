@@ -6,6 +6,7 @@ ghost use Rattle.program_chunks.specs.Chunks.{stays, read_of};
 ghost use Rattle.scenario_read.specs.Code.{fed_of};
 ghost use Rattle.scenario_promises.specs.Piped.{standing_of};
 ghost use Rattle.program_intake.specs.Intake.{nothing_taken, failed, turned, came_of, InHand};
+ghost use Rattle.program_intake.specs.Room.{no_room_taken, turned_in, room_of};
 
 use cell::pred::Pred;
 use program_chunks::Input;
@@ -31,6 +32,57 @@ pub struct Came {
     pub stop: Stop,
 }
 
+// The lists that the reader is lent, with the places that it needs, but for the chunk and the rows.
+#[derive(Clone, Copy)]
+pub struct Room {
+    pub line: [u8; 80],
+    pub lens: [u64; 16],
+    pub ops: [u64; 1024],
+    pub vals: [u64; 1024],
+    pub schedule: [u64; 64],
+}
+
+impl Room {
+    pub fn new() -> Room
+        ensures value { result ≡ no_room_taken }
+        ensures in_bounds { (16 ≤ length result.lens) × (1024 ≤ length result.ops) × (1024 ≤ length result.vals) × (64 ≤ length result.schedule) }
+    {
+        Room {
+            line: [0; 80],
+            lens: [0; 16],
+            ops: [0; 1024],
+            vals: [0; 1024],
+            schedule: [0; 64],
+        }
+    }
+
+    // A turn over these lists.
+    pub fn take_more(
+        &mut self,
+        intake: Intake,
+        input: Input,
+        chunk: &[u8],
+        rows: &mut [u64],
+    ) -> Came
+        ensures value { result ≡ came_of input (fed_of (turned_in intake input self.old chunk.now rows.old)) (length rows.old) }
+        ensures self_after { self.new ≡ room_of (turned_in intake input self.old chunk.now rows.old) }
+        ensures rows_after { rows.new ≡ (turned_in intake input self.old chunk.now rows.old).out }
+        ensures at_in_bounds { result.at ≤ length rows.new }
+    {
+        take_more(
+            intake,
+            input,
+            &mut self.line,
+            &mut self.lens,
+            &mut self.ops,
+            &mut self.vals,
+            &mut self.schedule,
+            chunk,
+            rows,
+        )
+    }
+}
+
 // Before the first byte. The standing is any, until the lock is set up.
 pub fn begin() -> Intake
     ensures { result ≡ nothing_taken }
@@ -48,9 +100,8 @@ pub fn begin() -> Intake
 pub fn read_chunk(mut source: Stdin, intake: Intake, chunk: &mut [u8]) -> Input
     ensures { InHand intake chunk.old result chunk.new }
 {
-    let input = intake.input;
-    if keeps(intake.full, input) {
-        return input;
+    if keeps(intake.full, intake.input) {
+        return intake.input;
     }
     gave(source.read(chunk))
 }
@@ -69,10 +120,7 @@ fn gave(got: io::Result<usize>) -> Input
 fn keeps(full: bool, input: Input) -> bool
     ensures { result ≡ (full || stays input) }
 {
-    if full {
-        return true;
-    }
-    program_chunks::stays(input)
+    full || program_chunks::stays(input)
 }
 
 // Of the chunk in hand as much is taken as the list has room for rows, which stand from its start on. That they end within it follows from the
@@ -97,11 +145,9 @@ pub fn take_more(
     ensures rows_after { rows.new ≡ (turned intake input line.old lens.old ops.old vals.old schedule.old chunk.now rows.old).out }
     ensures at_in_bounds { result.at ≤ length rows.new }
 {
-    let state = intake.state;
-    let standing = intake.standing;
     let fed = scenario_read::feed(
-        state,
-        standing,
+        intake.state,
+        intake.standing,
         line,
         lens,
         ops,
@@ -120,30 +166,28 @@ pub fn take_more(
 pub fn standing_of(intake: Intake) -> Standing
     ensures { result ≡ standing_of intake.state intake.standing }
 {
-    let state = intake.state;
-    let read = state.read;
-    let pred = read.pred;
-    if state.stood {
+    let State { read, stood, .. } = intake.state;
+    if stood {
         return intake.standing;
     }
-    scenario_pieces::at_first(pred, read.top, read.first)
+    scenario_pieces::at_first(read.pred, read.top, read.first)
 }
 
 fn hand_on(input: Input, fed: Fed, room: usize) -> Came
     ensures { result ≡ came_of input fed room }
 {
-    let state = fed.state;
-    let standing = fed.standing;
-    let stop = scenario_read::stopped(state, room, fed.at);
+    let Fed {
+        state,
+        standing,
+        from,
+        at,
+    } = fed;
+    let stop = scenario_read::stopped(state, room, at);
     let intake = Intake {
         state,
         standing,
-        input: program_chunks::taken_to(input, fed.from),
+        input: program_chunks::taken_to(input, from),
         full: scenario_read::is_full(stop),
     };
-    Came {
-        intake,
-        at: fed.at,
-        stop,
-    }
+    Came { intake, at, stop }
 }

@@ -1,19 +1,54 @@
 // What a program tells of a line that is refused, in numbers: how far the scenario was read, how long the line is, and its bytes.
 #![tactic(auto)]
 
-ghost use Rattle.std.specs.Prelude.{◌≡◌, ◌+◌, ◌*◌, ◌≤◌, min, [], ◌∷◌, ◌++◌, length, drop};
+ghost use Rattle.std.specs.Prelude.{◌≡◌, ◌+◌, ◌*◌, ◌≤◌, [], ◌∷◌, ◌++◌, length, drop};
 ghost use Rattle.scenario_lines.specs.Ascii.{bytes as ascii};
 ghost use Rattle.scenario_text.specs.Put.{Put, place_after, stored};
 ghost use Rattle.scenario_text.specs.Lines.{break};
+ghost use Rattle.program_told.specs.Turn.{length_in_turn, told_end, told_after};
 ghost use Rattle.program_told.specs.Told.{anew, through, last_length, missing, refused_length, listed, read_numbers, refused_bytes, read_text};
 
 use lock_words::names::NONE;
+use program_chunks::Input;
+use program_intake::{Came, Intake};
 use scenario_lines::bytes::Held;
 use scenario_lines::{LONGEST, bytes};
+use scenario_read::Stop;
 use scenario_stages::Read;
 
 // The most bytes of the text: a word, six numbers, those of a whole line, a comma before each, and the break.
 const MOST: usize = 1812;
+
+// How long the line is that a turn of a program refused, 0 where there is none. It was read in this turn: nothing is read behind it, and the rows
+// before it, less than a piece, have the room that was asked before it was read.
+pub fn length_in_turn(before: Intake, input: Input, came: Came, chunk: &[u8]) -> usize
+    ensures { result ≡ length_in_turn before input came chunk.now }
+{
+    let began = before.state;
+    let left = came.intake.state;
+    let taken = program_chunks::front(chunk, came.intake.input.from);
+    refused_length(
+        began.read,
+        began.held,
+        left.read,
+        left.closed,
+        taken,
+        input.from,
+    )
+}
+
+// What is told where a refusal stopped the reader is stored from the list's start on, and the place after it is returned: the refusal, and what is
+// known of its line.
+pub fn put_told(stop: Stop, read: Read, len: usize, line: &[u8], out: &mut [u8]) -> usize
+    ensures value { result ≡ told_end stop read len line.now out.old }
+    ensures out_after { out.new ≡ told_after stop read len line.now out.old }
+{
+    let n = scenario_prints::put_stop(stop, out, 0);
+    if n == 0 {
+        return 0;
+    }
+    put_read(out, n, read, len, line)
+}
 
 // How many bytes the line has that was refused in this turn, 0 where there is none and where the file ended before it: `earlier` and `held` are what
 // was read and held before the bytes of the chunk from `from` on.
@@ -40,10 +75,7 @@ pub fn refused_length(
 fn is_missing(before: u64, after: u64, closed: bool) -> bool
     ensures { result ≡ missing before after closed }
 {
-    if closed {
-        return after != std::num::wrapping_add_u64(before, 1);
-    }
-    false
+    closed && after != before.wrapping_add(1)
 }
 
 // How many bytes the line has that was read last: `held` is what was held of a line before the bytes of the chunk from `from` on, `closed` says
@@ -55,8 +87,7 @@ fn last_length(held: Held, chunk: &[u8], from: usize, closed: bool) -> usize
     let mut places = [0; 80];
     let h = go_through(&mut places, held, chunk, from);
     if closed {
-        let g = anew(h);
-        let end = bytes::finish(&mut places, g);
+        let end = bytes::finish(&mut places, anew(h));
         return end.len;
     }
     h.len
@@ -66,11 +97,8 @@ fn go_through(places: &mut [u8; 80], held: Held, chunk: &[u8], from: usize) -> H
     ensures { result ≡ through held (drop from chunk.now) }
 {
     let mut h = held;
-    let mut i = from;
-    while i < chunk.len() {
-        let g = anew(h);
-        h = bytes::push(places, g, chunk[i]);
-        i += 1;
+    for i in from..chunk.len() {
+        h = bytes::push(places, anew(h), chunk[i]);
     }
     h
 }
@@ -79,10 +107,7 @@ fn go_through(places: &mut [u8; 80], held: Held, chunk: &[u8], from: usize) -> H
 fn anew(h: Held) -> Held
     ensures { result ≡ anew h }
 {
-    if h.done {
-        return bytes::begin();
-    }
-    h
+    if h.done { bytes::begin() } else { h }
 }
 
 // The text is stored from `at` on, and the place after it is returned. Where the longest such text has no room, nothing is stored. `len` bytes of
@@ -118,8 +143,7 @@ fn write_numbers(out: &mut [u8], at: usize, read: Read, len: usize) -> usize
     requires { at + 126 ≤ length out.old }
     ensures { Put out.old at (listed (read_numbers read len)) 126 result out.new }
 {
-    let stage = read.stage;
-    let no = scenario_stages::stage_no(stage);
+    let no = scenario_stages::stage_no(read.stage);
     let n = write_four(out, at, no, read.top, read.first, read.threads);
     write_two(out, n, read.thread, len as u64)
 }
@@ -138,10 +162,8 @@ fn write_line(out: &mut [u8], at: usize, line: &[u8]) -> usize
     ensures { Put out.old at (listed line.now) (21 * length line.now) result out.new }
 {
     let mut p = at;
-    let mut i = 0;
-    while i < line.len() {
-        p = write_byte(out, p, line[i]);
-        i += 1;
+    for &b in line {
+        p = write_byte(out, p, b);
     }
     p
 }
@@ -150,7 +172,7 @@ fn write_byte(out: &mut [u8], at: usize, b: u8) -> usize
     requires { at + 21 ≤ length out.old }
     ensures { Put out.old at (listed (b ∷ [])) 21 result out.new }
 {
-    write_one(out, at, b as u64)
+    write_one(out, at, u64::from(b))
 }
 
 fn write_four(out: &mut [u8], at: usize, a: u64, b: u64, c: u64, d: u64) -> usize
@@ -182,12 +204,6 @@ fn write_one(out: &mut [u8], at: usize, v: u64) -> usize
 fn front(line: &[u8], len: usize) -> &[u8]
     ensures { result.now ≡ refused_bytes len line.now }
 {
-    let n = smaller(smaller(len, LONGEST), line.len());
+    let n = len.min(LONGEST).min(line.len());
     &line[..n]
-}
-
-fn smaller(a: usize, b: usize) -> usize
-    ensures { result ≡ min a b }
-{
-    if a < b { a } else { b }
 }

@@ -4,45 +4,19 @@
 
 ghost use Rattle.std.specs.Prelude.{◌≡◌, length};
 
-use std::io::{ErrorKind, Read, Stderr, Stdin, Stdout};
+use program_out::{Lost, Outputs};
+use std::io::{Read, Stdin};
 use std::process::ExitCode;
 use vcd::{Refusal, Signals};
 
 // So many bytes of text are written at once; behind them the list has room for a line.
 const FULL: usize = 50000;
 
-// The status that a shell gives a program which is ended since nobody reads its output any more.
-const UNREAD: u8 = 141;
-
-// What was read: so many bytes; whether reading failed; whether more came than there is room for.
-#[derive(Clone, Copy)]
-struct Got {
-    n: usize,
-    failed: bool,
-    too_large: bool,
-}
-
-// Where the signals go, and where it is said what is wrong.
-#[derive(Clone, Copy)]
-struct Outputs {
-    out: Stdout,
-    err: Stderr,
-}
-
-// What became of text that was to be written.
-#[derive(Clone, Copy)]
-enum Written {
-    Whole,
-    // Some of it could not be written.
-    Cut,
-    // Whoever read it has gone.
-    Unread,
-}
-
 fn main(rt: HostRuntime) -> ExitCode {
     let to = Outputs {
         out: rt.stdout(),
         err: rt.stderr(),
+        cut: b"trestlecat: the signals could not be written to their end, so they must not be used: make room, or let the reader take all of them\n",
     };
     let mut file = file_room();
     let mut chunk = io::large_buffer();
@@ -56,7 +30,7 @@ fn main(rt: HostRuntime) -> ExitCode {
         &mut signals,
         &mut out,
     );
-    status(matches!(written, Written::Unread))
+    ExitCode::from(program_out::status(written))
 }
 
 // What the limits leave room for. The `ensures` give only the lengths, which lending the arrays needs.
@@ -80,31 +54,32 @@ fn read_and_print(
     chunk: &mut [u8],
     signals: &mut [u64],
     out: &mut [u8],
-) -> Written {
-    let got = read_file(input, file, chunk);
-    if got.failed {
+) -> Result<(), Lost> {
+    let Ok(got) = read_file(input, file, chunk) else {
         let _ = to.err.write_all(
             b"trestlecat: the input could not be read to its end, so nothing is printed: give a file or a pipe that can be read\n",
         );
-        return Written::Whole;
-    }
-    let answer = read_signals(program_chunks::front(file, got.n), got.too_large, signals);
+        return Ok(());
+    };
+    let answer = match got {
+        Some(n) => vcd_code::read::read(program_chunks::front(file, n), signals),
+        None => Err(Refusal::NoRoom),
+    };
     print(to, answer, signals, out)
 }
 
-// Up to the end of the input, which is read once, so that at a terminal it is said once; or as far as there is room.
-fn read_file(mut input: Stdin, file: &mut [u8], chunk: &mut [u8]) -> Got {
+// So many bytes up to the end of the input, which is read once, so that at a terminal it is said once; none where more came than there is room for.
+fn read_file(
+    mut input: Stdin,
+    file: &mut [u8],
+    chunk: &mut [u8],
+) -> std::io::Result<Option<usize>> {
     let mut n = 0;
     // A proved loop has to end, and nothing says that the input does: it takes as many turns as no input uses up.
     for _ in 0..u64::MAX {
-        let got = input.read(chunk);
-        let more = got.unwrap_or(0);
+        let more = input.read(chunk)?;
         if more == 0 {
-            return Got {
-                n,
-                failed: got.is_err(),
-                too_large: false,
-            };
+            return Ok(Some(n));
         }
         let m = scenario_text::put_bytes(file, n, program_chunks::front(chunk, more));
         if m == n {
@@ -112,59 +87,45 @@ fn read_file(mut input: Stdin, file: &mut [u8], chunk: &mut [u8]) -> Got {
         }
         n = m;
     }
-    Got {
-        n,
-        failed: false,
-        too_large: true,
-    }
+    Ok(None)
 }
 
-fn read_signals(file: &[u8], too_large: bool, signals: &mut [u64]) -> Result<u64, Refusal> {
-    if too_large {
-        return Err(Refusal::NoRoom);
-    }
-    vcd_code::read::read(file, signals)
-}
-
-fn print(to: Outputs, answer: Result<u64, Refusal>, signals: &[u64], out: &mut [u8]) -> Written {
+fn print(
+    to: Outputs,
+    answer: Result<u64, Refusal>,
+    signals: &[u64],
+    out: &mut [u8],
+) -> Result<(), Lost> {
     match answer {
         Ok(rows) => print_lines(to, signals, rows, out),
         Err(why) => print_refusal(to, why, out),
     }
 }
 
-fn print_refusal(to: Outputs, why: Refusal, out: &mut [u8]) -> Written {
+fn print_refusal(to: Outputs, why: Refusal, out: &mut [u8]) -> Result<(), Lost> {
     let n = scenario_text::put_refusal(out, 0, u64::from(why), 0);
     let text = program_chunks::front(out, n);
+    to.judge(to.out.write_all(text))?;
     // whoever started it makes words of this, as of what the other programs tell
-    let written = write(to, text);
-    if is_whole(written) {
-        let _ = to.err.write_all(text);
-    }
-    written
+    let _ = to.err.write_all(text);
+    Ok(())
 }
 
-fn print_lines(to: Outputs, signals: &[u64], rows: u64, out: &mut [u8]) -> Written {
+fn print_lines(to: Outputs, signals: &[u64], rows: u64, out: &mut [u8]) -> Result<(), Lost> {
     let mut at = scenario_text::put_bytes(out, 0, b"time,exc,rc\r\n");
-    for t in 0..signals.len() {
-        if rows < t as u64 {
-            break;
-        }
+    for t in 0..=rows {
         at = put_line(signals, t, out, at);
         if FULL < at {
-            let written = write(to, program_chunks::front(out, at));
-            if !is_whole(written) {
-                return written;
-            }
+            to.judge(to.out.write_all(program_chunks::front(out, at)))?;
             at = 0;
         }
     }
-    write(to, program_chunks::front(out, at))
+    to.judge(to.out.write_all(program_chunks::front(out, at)))
 }
 
-fn put_line(signals: &[u64], t: usize, out: &mut [u8], at: usize) -> usize {
-    let s = signals_at(signals, t);
-    let n = put_field(out, at, t as u64, b",");
+fn put_line(signals: &[u64], t: u64, out: &mut [u8], at: usize) -> usize {
+    let s = signals_at(signals, t as usize);
+    let n = put_field(out, at, t, b",");
     let m = put_field(out, n, s.exc, b",");
     put_field(out, m, s.rc, b"\r\n")
 }
@@ -182,33 +143,4 @@ fn signals_at(signals: &[u64], t: usize) -> Signals {
 fn put_field(out: &mut [u8], at: usize, v: u64, end: &[u8]) -> usize {
     let n = scenario_text::put_number(out, at, v);
     scenario_text::put_bytes(out, n, end)
-}
-
-fn write(to: Outputs, text: &[u8]) -> Written {
-    match to.out.write_all(text) {
-        Ok(()) => Written::Whole,
-        Err(why) => cut(to.err, why.kind()),
-    }
-}
-
-// Whoever has gone does not want to hear of it.
-fn cut(err: Stderr, why: ErrorKind) -> Written {
-    if matches!(why, ErrorKind::BrokenPipe) {
-        return Written::Unread;
-    }
-    let _ = err.write_all(
-        b"trestlecat: the signals could not be written to their end, so they must not be used: make room, or let the reader take all of them\n",
-    );
-    Written::Cut
-}
-
-fn is_whole(written: Written) -> bool {
-    matches!(written, Written::Whole)
-}
-
-fn status(unread: bool) -> ExitCode {
-    if unread {
-        return ExitCode::from(UNREAD);
-    }
-    ExitCode::SUCCESS
 }

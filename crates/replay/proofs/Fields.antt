@@ -9,13 +9,12 @@ use borrow.Author.Tests.{ltb-true, ltb-false, lt-ltb, le-ltb}
 use lib.Dec.{eqb, ltb}
 use lib.ListN.{length, take, drop, length-drop}
 use lib.Seq.{drop-drop}
-use Rattle.std.specs.Prelude.{Option}
 use Rattle.scenario_lines.specs.Judge.{fields, comma_at}
 use Rattle.scenario_lines.specs.Number.{number}
 use Rattle.scenario_lines.proofs.Scans.{part_whole, fields_cut, fields_one}
 use Rattle.replay.specs.Lists.{part_of, place_of}
 use Rattle.replay.specs.Numbers.{Filled, filled, is_put, put_in, fill}
-use Rattle.replay.specs.declared.numbers.Stored.TheVariants.{Broken, All}
+use Rattle.std.specs.declared.option.Option.TheVariants.{None, Some}
 use Rattle.replay.proofs.Scans.{part_in}
 
 place_by : (t : Bool) (n m : ℕ) → n ≤ m → cond t 0 (suc n) ≤ suc m
@@ -62,21 +61,21 @@ module _ (s : List ℕ) (from to : ℕ) (within : from ≤ length s) (here : to 
   -- a turn: p is what the field says, ok whether it was put, and v the words afterwards
   module _ (w : List ℕ) (n : ℕ) {all : Filled} (so_far : all ≡ fill (fields (drop from s)) w n)
       {p : Option ℕ} {ok : Bool} {v : List ℕ} (says : p ≡ number (part_of from to s)) (put : (ok ≡ is_put p n w) × (v ≡ put_in p n w)) where
-    turned : all ≡ cond ok (fill (cond (ltb to (length s)) (fields (drop (to + 1) s)) []) v (suc n)) (filled Broken v)
+    turned : all ≡ cond ok (fill (cond (ltb to (length s)) (fields (drop (to + 1) s)) []) v (suc n)) (filled None v)
     unfolding fill
     turned =
         so_far ∙ ap (λ (fs : List (List ℕ)). fill fs w n) (by_end (ltb to (length s)) refl)
         ∙ rw (← says) (rw (← put.0, ← put.1))
 
-    pub fills_broken : ok ≡ false → (Broken ≡ all.told) × (v ≡ all.words)
+    pub fills_broken : ok ≡ false → (None ≡ all.told) × (v ≡ all.words)
     fills_broken e =
-        let at_last : all ≡ filled Broken v = turned ∙ rw e in
+        let at_last : all ≡ filled None v = turned ∙ rw e in
         (sym (ap (λ (x : Filled). x.told) at_last), sym (ap (λ (x : Filled). x.words) at_last))
 
-    pub fills_last : ok ≡ true → length s ≤ to → (All (n + 1) ≡ all.told) × (v ≡ all.words)
+    pub fills_last : ok ≡ true → length s ≤ to → (Some (n + 1) ≡ all.told) × (v ≡ all.words)
     unfolding fill
     fills_last e h =
-        let at_last : all ≡ filled (All (suc n)) v = turned ∙ rw (e, le-ltb to (length s) h) in
+        let at_last : all ≡ filled (Some (suc n)) v = turned ∙ rw (e, le-ltb to (length s) h) in
         (rw add-one (sym (ap (λ (x : Filled). x.told) at_last)), sym (ap (λ (x : Filled). x.words) at_last))
 
     pub fills_on : ok ≡ true → to < length s → all ≡ fill (fields (drop (to + 1) s)) v (n + 1)

@@ -10,14 +10,13 @@ use borrow.Author.Tests.{eq-eqb, eqb-true, lt-ltb}
 use lib.Dec.{eqb}
 use lib.ListN.{length, set, replicate, length-set}
 use lib.Seq.{sets, sets-eq}
-use Rattle.std.specs.Prelude.{Some}
 use Rattle.scenario_lines.specs.Judge.{equal, fields}
 use Rattle.scenario_lines.specs.Number.{number}
 use Rattle.replay.specs.Lists.{front_then}
 use Rattle.replay.specs.Numbers.{filled, fill}
 use Rattle.replay.specs.Reading.{Took, took, taking, byte_before, grown}
 use Rattle.replay.specs.Laws.{SameList, FrontAndRest, NumbersInPlace, without_break, LineGathered, behind, CutAnywhere}
-use Rattle.replay.specs.declared.numbers.Stored.TheVariants.{All}
+use Rattle.std.specs.declared.option.Option.TheVariants.{Some}
 
 both : (t u : Bool) → (t && u) ≡ true → (t ≡ true) × (u ≡ true)
 both true u e = (refl, e)
@@ -69,7 +68,7 @@ pub front_and_rest : FrontAndRest
 front_and_rest x l front = (front_is x l front, is_front x front)
 
 -- ---- numbers in their places
-put_all : (fs : List (List ℕ)) (w vs : List ℕ) (n : ℕ) → map number fs ≡ map Some vs → n + length vs ≤ length w → fill fs w n ≡ filled (All (n + length vs)) (sets w n vs)
+put_all : (fs : List (List ℕ)) (w vs : List ℕ) (n : ℕ) → map number fs ≡ map Some vs → n + length vs ≤ length w → fill fs w n ≡ filled (Some (n + length vs)) (sets w n vs)
 unfolding fill
 put_all [] w [] n e h = let z : n + 0 ≡ n = omega arith in rw z
 put_all [] w (v ∷ vs) n e h = let z : ◌≡◌ {A = ℕ} 0 1 = cc in absurd (omega arith)

@@ -1,7 +1,7 @@
 -- One turn of each search of a list is one unfolding of its definition. Assumes nothing.
 use Prim.Native.Nat.{ℕ, zero, suc, ◌+◌, ◌-◌, ◌<◌, ◌≤◌}
 use mathlib.Core.Bool.{Bool, true, false, ◌&&◌}
-use mathlib.Core.Path.{◌≡◌, refl, ◌∙◌}
+use mathlib.Core.Path.{◌≡◌, refl, ap, ◌∙◌}
 use mathlib.Core.List.{List, [], ◌∷◌}
 use native.Mathlib.Numerals.{add-one}
 use native.Mathlib.Omega.{arith}
@@ -9,9 +9,12 @@ use borrow.Author.Tests.{eq-eqb, ne_eqb, le-leb, lt-leb}
 use lib.Dec.{eqb}
 use lib.ListN.{length, get_or, take, drop, drop_of_length-le}
 use lib.Seq.{drop-cons, drop-nil}
+use lib.Pointwise.{pointwise}
+use Rattle.std.proofs.Common.{nat_eq}
+use Rattle.scenario_lines.specs.Judge.{equal}
 use Rattle.replay.specs.Lists.{part_of, place_of, front_then}
 
-module _ (s : List ℕ) (from to : ℕ) where
+module _ {A : Type 0} (s : List A) (from to : ℕ) where
   pub part_in : to ≤ length s → part_of from to s ≡ take (to - from) (drop from s)
   unfolding part_of
   part_in h = rw (le-leb to (length s) h)
@@ -68,6 +71,14 @@ module _ (x : ℕ) (s t : List ℕ) (i : ℕ) where
   pub front_over : length s ≤ i → length t ≤ i → front_then x (drop i s) (drop i t) ≡ true
   unfolding front_then
   front_over h k = rw (drop_of_length-le s h, drop_of_length-le t k)
+
+-- ---- two lists compared
+pub same_so : (s t : List ℕ) → pointwise nat_eq s t ≡ equal s t
+unfolding equal
+same_so [] [] = refl
+same_so [] (y ∷ t) = refl
+same_so (x ∷ s) [] = refl
+same_so (x ∷ s) (y ∷ t) = ap (λ (e : Bool). eqb x y && e) (same_so s t)
 
 -- what stands in a list is there whatever is said of what lies past it
 pub get_d_other : (l : List ℕ) (i x : ℕ) → i < length l → get_or l i 0 ≡ get_or l i x

@@ -50,10 +50,10 @@ module _ (s : List ℕ) (i : ℕ) (l : List ℕ) (n : ℕ) where
           here.1 ∙ ap (λ (y : Took). y.line) w,
         )
 
-    pub takes_over : length s ≤ i → (record { held = n; at = i; done = false } ≡ t) × (l ≡ m)
-    takes_over h =
+    pub takes_over : length s ≤ i → {at : ℕ} → at ≡ i → (record { held = n; at = at; done = false } ≡ t) × (l ≡ m)
+    takes_over h {at} here_too =
         let w = took_over h in
-        let e : i + 0 ≡ i = omega arith in
+        let e : i + 0 ≡ at = omega arith in
         (rw (← e) (sym (here.0 ∙ ap (λ (x : Took). taken_from i x) w)), sym (here.1 ∙ ap (λ (x : Took). x.line) w))
 
 -- what is taken of the front of a chunk, with what is held of the line

@@ -1,14 +1,14 @@
 -- What is claimed of the replays' library: two lists compare equal exactly if they are the same list, a list passes as a front with a rest
 -- exactly if it is these two, every field of a line that is read is a number in its place, what is gathered of a line is its bytes, and the bytes
 -- may come in any chunks.
-use Rattle.std.specs.Prelude.{ℕ, ◌+◌, ◌-◌, ◌≤◌, Bool, true, false, ◌&&◌, not, ◌≡◌, List, [], ◌∷◌, ◌++◌, map, eqb, length, drop, replicate, Some}
+use Rattle.std.specs.Prelude.{ℕ, ◌+◌, ◌-◌, ◌≤◌, Bool, true, false, ◌&&◌, not, ◌≡◌, List, [], ◌∷◌, ◌++◌, map, eqb, length, drop, replicate}
 use Rattle.scenario_lines.specs.Judge.{equal, fields}
 use Rattle.scenario_lines.specs.Lines.{lf}
 use Rattle.scenario_lines.specs.Number.{number}
 use Rattle.replay.specs.Lists.{front_then}
 use Rattle.replay.specs.Numbers.{filled, numbers_of}
 use Rattle.replay.specs.Reading.{Took, took, taking}
-use Rattle.replay.specs.declared.numbers.Stored.TheVariants.{All}
+use Rattle.std.specs.declared.option.Option.TheVariants.{Some}
 
 abbrev pub SameList : Type 0
 SameList = (s t : List ℕ) → (equal s t ≡ true → s ≡ t) × (s ≡ t → equal s t ≡ true)
@@ -23,7 +23,7 @@ FrontAndRest =
 -- where the fields of a line are these numbers and the words have room, the words start with them and are behind as they were
 abbrev pub NumbersInPlace : Type 0
 NumbersInPlace =
-    (text w vs : List ℕ) → map number (fields text) ≡ map Some vs → length vs ≤ length w → numbers_of text w ≡ filled (All (length vs)) (vs ++ drop (length vs) w)
+    (text w vs : List ℕ) → map number (fields text) ≡ map Some vs → length vs ≤ length w → numbers_of text w ≡ filled (Some (length vs)) (vs ++ drop (length vs) w)
 
 -- no break among the bytes
 abbrev pub without_break : List ℕ → Bool

@@ -2,7 +2,7 @@
 use Rattle.std.specs.Prelude.{ℕ, suc, ◌+◌, ◌-◌, Bool, true, false, ◌&&◌, cond, List, [], ◌∷◌, eqb, leb, length, take, drop}
 
 -- from a place up to another; none where that lies past the end
-unfoldable pub part_of : ℕ → ℕ → List ℕ → List ℕ
+unfoldable pub part_of : {A : Type 0} → ℕ → ℕ → List A → List A
 part_of from to l = cond (leb to (length l)) (take (to - from) (drop from l)) []
 
 -- how many stand before the first b

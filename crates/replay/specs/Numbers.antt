@@ -3,15 +3,15 @@ use Rattle.std.specs.Prelude.{ℕ, suc, Bool, false, cond, List, [], ◌∷◌, 
 use Rattle.scenario_lines.specs.Judge.{fields, comma}
 use Rattle.scenario_lines.specs.Number.{number}
 use Rattle.replay.specs.Lists.{part_of, place_from}
-use Rattle.replay.specs.declared.numbers.Stored.{Stored}
-use Rattle.replay.specs.declared.numbers.Stored.TheVariants.{Broken, All}
+use Rattle.std.specs.declared.option.Option.{Option}
+use Rattle.std.specs.declared.option.Option.TheVariants.{None, Some}
 
 -- what is told of a line's numbers, and the words afterwards
 pub record Filled : Type 0 where
-  pub told : Stored
+  pub told : Option ℕ
   pub words : List ℕ
 
-abbrev pub filled : Stored → List ℕ → Filled
+abbrev pub filled : Option ℕ → List ℕ → Filled
 filled told w = record { told = told; words = w }
 
 -- one number at a place, if it is a number and the place is one of the list's
@@ -25,8 +25,8 @@ put_in (Some v) n w = set w n v
 
 -- fields from a place on, up to the first that cannot be put
 unfoldable pub fill : List (List ℕ) → List ℕ → ℕ → Filled
-fill [] w n = filled (All n) w
-fill (f ∷ fs) w n = cond (is_put (number f) n w) (fill fs (put_in (number f) n w) (suc n)) (filled Broken (put_in (number f) n w))
+fill [] w n = filled (Some n) w
+fill (f ∷ fs) w n = cond (is_put (number f) n w) (fill fs (put_in (number f) n w) (suc n)) (filled None (put_in (number f) n w))
 
 abbrev pub numbers_of : List ℕ → List ℕ → Filled
 numbers_of text w = fill (fields text) w 0

@@ -8,16 +8,8 @@ use scenario_lines::number::parse_number;
 // What the first number of a line says that is wrong on purpose.
 const WRONG: u64 = 999;
 
-// What became of what a line holds: how many of them there are.
-#[derive(Clone, Copy)]
-pub enum Stored {
-    // One of them cannot be read, or has no room.
-    Broken,
-    All(usize),
-}
-
-// The numbers of a line go to the start of `words`, up to the first that is none or has no room.
-pub fn numbers(text: &[u8], words: &mut [u64]) -> Stored
+// The numbers of a line go to the start of `words`, up to the first that is none or has no room. How many they are, where each is read and has room.
+pub fn numbers(text: &[u8], words: &mut [u64]) -> Option<usize>
     ensures value { result ≡ (numbers_of text.now words.old).told }
     ensures words_after { words.new ≡ (numbers_of text.now words.old).words }
 {
@@ -26,11 +18,11 @@ pub fn numbers(text: &[u8], words: &mut [u64]) -> Stored
     loop {
         let end = find(text, at, b',');
         if !put(words, n, parse_number(part(text, at, end))) {
-            return Stored::Broken;
+            return None;
         }
         n += 1;
         if end >= text.len() {
-            return Stored::All(n);
+            return Some(n);
         }
         at = end + 1;
     }
@@ -40,25 +32,19 @@ pub fn numbers(text: &[u8], words: &mut [u64]) -> Stored
 pub fn is_wrong(text: &[u8]) -> bool
     ensures { result ≡ on_purpose text.now }
 {
-    let what = parse_number(part(text, 0, find(text, 0, b',')));
-    match what {
-        Some(n) => n == WRONG,
-        None => false,
-    }
+    parse_number(part(text, 0, find(text, 0, b','))) == Some(WRONG)
 }
 
 fn put(words: &mut [u64], at: usize, what: Option<u64>) -> bool
     ensures value { result ≡ is_put what at words.old }
     ensures words_after { words.new ≡ put_in what at words.old }
 {
-    match what {
-        None => false,
-        Some(n) => {
-            if at >= words.len() {
-                return false;
-            }
-            words[at] = n;
-            true
-        }
+    let Some(n) = what else {
+        return false;
+    };
+    if at >= words.len() {
+        return false;
     }
+    words[at] = n;
+    true
 }

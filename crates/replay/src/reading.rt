@@ -66,11 +66,10 @@ pub fn take_line(line: &mut [u8], chunk: &[u8], r: Reading) -> Reading
     let bytes = program_chunks::front(chunk, r.len);
     let taken = take_some(line, bytes, r.from, open(r));
     Reading {
-        len: r.len,
         from: taken.at,
         held: taken.held,
         done: taken.done,
-        over: r.over,
+        ..r
     }
 }
 
@@ -106,22 +105,19 @@ fn take_some(line: &mut [u8], chunk: &[u8], from: usize, held: usize) -> TakenSo
     ensures line_after { line.new ≡ (took (drop from chunk.now) line.old held).line }
 {
     let mut n = held;
-    let mut i = from;
-    while i < chunk.len() {
-        let b = chunk[i];
-        i += 1;
-        if b == BREAK {
+    for i in from..chunk.len() {
+        if chunk[i] == BREAK {
             return TakenSome {
                 held: n,
-                at: i,
+                at: i + 1,
                 done: true,
             };
         }
-        n = keep(line, n, b);
+        n = keep(line, n, chunk[i]);
     }
     TakenSome {
         held: n,
-        at: i,
+        at: chunk.len().max(from),
         done: false,
     }
 }

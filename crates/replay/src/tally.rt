@@ -47,9 +47,10 @@ pub fn start() -> Tally
 pub fn pass(t: Tally) -> Tally
     ensures { result ≡ passed t }
 {
-    let mut after = t;
-    after.line = up(t.line);
-    after
+    Tally {
+        line: up(t.line),
+        ..t
+    }
 }
 
 // A row of a list that tells only whether its lines agree.
@@ -81,7 +82,7 @@ pub fn on_verdict(out: Stdout, t: Tally, wrong: bool, verdict: Verdict) -> Tally
 pub fn report(out: Stdout, t: Tally) -> u64
     ensures { result ≡ rows_of t }
 {
-    let rows = sum(t.equal, t.different);
+    let rows = t.equal.saturating_add(t.different);
     print(out, b"rows ", rows);
     print(out, b"equal ", t.equal);
     print(out, b"different ", t.different);
@@ -135,9 +136,10 @@ fn on_wrong(out: Stdout, t: Tally, verdict: Verdict) -> Tally
 fn agree(t: Tally) -> Tally
     ensures { result ≡ agreed t }
 {
-    let mut after = pass(t);
-    after.equal = up(t.equal);
-    after
+    Tally {
+        equal: up(t.equal),
+        ..pass(t)
+    }
 }
 
 // The first lines that differ are named as they come.
@@ -147,48 +149,46 @@ fn differ(out: Stdout, t: Tally) -> Tally
     if t.different < NAMED {
         print(out, b"different at line ", t.line);
     }
-    let mut after = pass(t);
-    after.different = up(t.different);
-    after
+    Tally {
+        different: up(t.different),
+        ..pass(t)
+    }
 }
 
 fn leave_unread(out: Stdout, t: Tally) -> Tally
     ensures { result ≡ left_unread t }
 {
     print(out, b"unreadable at line ", t.line);
-    let mut after = pass(t);
-    after.unreadable = up(t.unreadable);
-    after
+    Tally {
+        unreadable: up(t.unreadable),
+        ..pass(t)
+    }
 }
 
 fn leave_outside(t: Tally) -> Tally
     ensures { result ≡ left_outside t }
 {
-    let mut after = pass(t);
-    after.outside = up(t.outside);
-    after
+    Tally {
+        outside: up(t.outside),
+        ..pass(t)
+    }
 }
 
 fn find(out: Stdout, t: Tally, how: &[u8]) -> Tally
     ensures { result ≡ found_wrong t }
 {
     print(out, how, t.line);
-    let mut after = pass(t);
-    after.found = up(t.found);
-    after
+    Tally {
+        found: up(t.found),
+        ..pass(t)
+    }
 }
 
 // A count that cannot grow stays, so that none turns over to 0.
 fn up(n: u64) -> u64
     ensures { result ≡ sum_of n 1 }
 {
-    if n < u64::MAX { n + 1 } else { n }
-}
-
-fn sum(a: u64, b: u64) -> u64
-    ensures { result ≡ sum_of a b }
-{
-    if a <= u64::MAX - b { a + b } else { u64::MAX }
+    n.saturating_add(1)
 }
 
 // What cannot be written is passed over: the tally counts on, and whoever reads the report misses a line.

@@ -6,7 +6,6 @@
 
 ghost use Rattle.std.specs.Prelude.{◌<◌, length, IfSome};
 
-use replay::numbers::Stored;
 use replay::reading::Reading;
 use replay::tally::{Tally, Verdict};
 use replay::{lists, numbers, reading, tally};
@@ -101,13 +100,13 @@ fn verdict_on(line: &[u8]) -> Verdict {
     }
     let mut words = [0; WORDS];
     let mut bytes = [0; BYTES];
-    let Stored::All(n) = numbers::numbers(lists::part(line, 0, bar), &mut words) else {
+    let Some(n) = numbers::numbers(lists::part(line, 0, bar), &mut words) else {
         return Verdict::Unreadable;
     };
     let Some(m) = bytes_in(lists::part(line, bar + 1, line.len()), &mut bytes) else {
         return Verdict::Unreadable;
     };
-    replay_call(lists::words(&words, 0, n), lists::part(&bytes, 0, m))
+    replay_call(lists::part(&words, 0, n), lists::part(&bytes, 0, m))
 }
 
 fn replay_call(line: &[u64], bytes: &[u8]) -> Verdict {
@@ -172,7 +171,7 @@ fn is_told(line: &[u64], answer: Result<u64, Refusal>) -> bool {
 
 // The words behind the fields of a line.
 fn words_of(line: &[u64]) -> &[u64] {
-    lists::words(line, FIELDS, line.len())
+    lists::part(line, FIELDS, line.len())
 }
 
 // Bytes, some of them as a backslash with three digits, go to the start of `bytes`; how many there are.

@@ -1,5 +1,5 @@
--- `is_front` meets its contract. The loop's invariant: the definition of the whole is that of the rest, from here on. The measure is
--- what is left. Assumes nothing.
+-- `is_front` meets its contract. The loop's invariant: the definition of the whole is that of the rest, from here on. Assumes
+-- nothing.
 use Rattle.replay.proofs.Scans.{front_long, front_hit, front_miss, front_over}
 use mathlib.Core.Path.{sym, ◌∙◌}
 use native.Mathlib.Omega.{arith}
@@ -15,14 +15,14 @@ returns-then-list-i c =
     let a = c.args in
     let l = c.loop-i in
     let t = c.loop-i-test.true in
-    sym (l.invariant.2 ∙ front_hit a.other a.list.now a.front.now l.i t (λ e. c.if-list-i.true (e ∙ sym c.byte_or.ensures)))
+    sym (l.invariant.2 ∙ front_hit a.other a.list.now a.front.now l.i t (λ e. c.if-list-i.true (e ∙ sym c.or_at.ensures)))
 
 pub loop-i-preserved : goal.loop-i-preserved
 loop-i-preserved c =
     let a = c.args in
     let l = c.loop-i in
     let t = c.loop-i-test.true in
-    (omega arith, l.invariant.1, l.invariant.2 ∙ front_miss a.other a.list.now a.front.now l.i t (c.if-list-i.false ∙ c.byte_or.ensures))
+    (omega arith, l.invariant.1, l.invariant.2 ∙ front_miss a.other a.list.now a.front.now l.i t (c.if-list-i.false ∙ c.or_at.ensures))
 
 pub returns : goal.returns
 returns c =
