@@ -25,6 +25,7 @@ use Rattle.lock.specs.ByValue.{run_checks_of, run_refusal_of, run_of}
 use Rattle.lock.specs.Run.{ran_of, ready_of, Ready}
 use Rattle.lock.specs.declared.run.RunReturn.{RunReturn}
 use Rattle.lock.proofs.Told.{Told, number_beside, none_told, some_told, is_some, still, fine, applies}
+pub use Rattle.lock.proofs.Told.{number_beside, earlier, later}
 
 -- the two tests of an order are each other's opposite
 pub leb_ltb : (a b : ℕ) → leb a b ≡ not (ltb b a)

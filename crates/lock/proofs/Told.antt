@@ -53,6 +53,22 @@ module _ (s : Lent) (k : ℕ) where
   unfolding beside
   is_some some = rw (ne_eqb k 0 some) refl
 
+  pub none_some : some_refusal (beside s k) ≡ None → k ≡ 0
+  unfolding beside
+  none_some e = go (eqb k 0) refl e
+    where
+      go : (b : Bool) → eqb k 0 ≡ b → cond b None (Some (beside s k)) ≡ None → k ≡ 0
+      go true q f = eqb-true k 0 q
+      go false q f = absurd (cc f)
+
+  pub some_some : (why : Refusal) → some_refusal (beside s k) ≡ Some why → (k ≢ 0) × (beside s k ≡ why)
+  unfolding beside
+  some_some why e = go (eqb k 0) refl e
+    where
+      go : (b : Bool) → eqb k 0 ≡ b → cond b None (Some (beside s k)) ≡ Some why → (k ≢ 0) × (beside s k ≡ why)
+      go true q f = absurd (cc f)
+      go false q f = (eqb-false k 0 q, cc f)
+
 -- ---- checks with more checks after them
 pub earlier : (cs ds : List Check) → (lowest cs ≡ 0 → ⊥) → lowest (cs ++ ds) ≡ lowest cs
 unfolding lowest
