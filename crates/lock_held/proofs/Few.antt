@@ -19,9 +19,7 @@ use Rattle.lock.specs.Drain.{drained_of}
 use Rattle.lock.proofs.Begins.{setup_first, setup_others}
 use Rattle.lock.proofs.ByValue.{run_by_value}
 use Rattle.lock.proofs.Draining.{drain_by_value}
-use Rattle.lock_lent.specs.Taken.{ran_with, drained_with}
 use Rattle.lock_held.specs.Begun.{begun_with}
-use Rattle.lock_held.specs.Together.{ran_together, drained_together}
 
 module _ (count : ℕ) (recs : List Rec) (few : count ≤ 16) (wide : length recs ≡ 16) where
   all : min count 16 ≡ count
@@ -43,8 +41,8 @@ module _ (count : ℕ) (recs : List Rec) (few : count ≤ 16) (wide : length rec
     run_lent_lem schedule budget trace = rw all (sym (run_by_value s count L recs schedule budget trace few wide))
 
     pub run_few : (schedule : List ℕ) (budget : ℕ) (trace : List ℕ)
-        → ran_together (ran_with (min count 16) recs (run_lent s L (take (min count 16) recs) schedule budget trace)) ≡ ran_of count recs (run_of s count L recs schedule budget trace)
+        → ran_of (min count 16) recs (run_lent s L (take (min count 16) recs) schedule budget trace) ≡ ran_of count recs (run_of s count L recs schedule budget trace)
     run_few schedule budget trace = rw (run_lent_lem schedule budget trace, all) refl
 
-    pub drain_few : drained_together (drained_with (min count 16) recs (drain_lent s L (take (min count 16) recs))) ≡ drained_of count recs (drain_of s count L recs)
+    pub drain_few : drained_of (min count 16) recs (drain_lent s L (take (min count 16) recs)) ≡ drained_of count recs (drain_of s count L recs)
     drain_few = rw (all, ← (drain_by_value s count L recs (omega (arith, few, wide)))) refl

@@ -5,14 +5,15 @@ ghost use Rattle.machine.specs.Setup.{setup, setup_recs};
 ghost use Rattle.machine.specs.Run.{run_lent};
 ghost use Rattle.machine.specs.Drain.{drain_lent};
 ghost use Rattle.lock_lent.specs.Run.{rest_lent, rest_lent_trace};
-ghost use Rattle.lock_lent.specs.Taken.{ran_with, drained_with};
+ghost use Rattle.lock.specs.Run.{ran_of};
+ghost use Rattle.lock.specs.Drain.{drained_of};
 ghost use Rattle.lock_held.specs.Begun.{begun_with};
 
 use atomic::Count;
 use cell::pred::Pred;
+use lock::drain::DrainReturn;
+use lock::run::RunReturn;
 use lock::setup::Begun;
-use lock_lent::drain::DrainedWith;
-use lock_lent::run::RanWith;
 use lock_lent::{drain, exchange, run, setup};
 use machine::{Lists, Lock, Rec};
 
@@ -40,14 +41,14 @@ pub(crate) fn run(
     schedule: &[u64],
     budget: u64,
     trace: &mut [u64],
-) -> RanWith
-    ensures value { result ≡ ran_with (min count 16) recs (run_lent (lent lists.entry) lock (take (min count 16) recs) schedule.now budget trace.old) }
+) -> RunReturn
+    ensures value { result ≡ ran_of (min count 16) recs (run_lent (lent lists.entry) lock (take (min count 16) recs) schedule.now budget trace.old) }
     ensures trace_after { trace.new ≡ (run_lent (lent lists.entry) lock (take (min count 16) recs) schedule.now budget trace.old).trace }
 {
     let n = exchange::at_most_sixteen(count);
     let mut rs = recs;
     let ran = run::run(lists, lock, &mut rs[..n], schedule, budget, trace);
-    RanWith { ran, recs: rs }
+    RunReturn { ran, recs: rs }
 }
 
 pub(crate) fn run_rest(
@@ -59,8 +60,8 @@ pub(crate) fn run_rest(
     budget: u64,
     used: u64,
     trace: &mut [u64],
-) -> RanWith
-    ensures value { result ≡ ran_with (min count 16) recs (rest_lent (lent lists.entry) lock (take (min count 16) recs) schedule.now budget used trace.old) }
+) -> RunReturn
+    ensures value { result ≡ ran_of (min count 16) recs (rest_lent (lent lists.entry) lock (take (min count 16) recs) schedule.now budget used trace.old) }
     ensures trace_after { trace.new ≡ rest_lent_trace (lent lists.entry) lock (take (min count 16) recs) schedule.now budget used trace.old }
 {
     let n = exchange::at_most_sixteen(count);
@@ -74,7 +75,7 @@ pub(crate) fn run_rest(
         used,
         trace,
     );
-    RanWith { ran, recs: rs }
+    RunReturn { ran, recs: rs }
 }
 
 pub(crate) fn drain(
@@ -82,11 +83,11 @@ pub(crate) fn drain(
     lock: Lock,
     recs: [Rec; 16],
     count: usize,
-) -> DrainedWith
-    ensures { result ≡ drained_with (min count 16) recs (drain_lent (lent lists.entry) lock (take (min count 16) recs)) }
+) -> DrainReturn
+    ensures { result ≡ drained_of (min count 16) recs (drain_lent (lent lists.entry) lock (take (min count 16) recs)) }
 {
     let n = exchange::at_most_sixteen(count);
     let mut rs = recs;
     let drained = drain::drain(lists, lock, &mut rs[..n]);
-    DrainedWith { drained, recs: rs }
+    DrainReturn { drained, recs: rs }
 }

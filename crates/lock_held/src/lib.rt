@@ -8,7 +8,6 @@ ghost use Rattle.lock.specs.ByValue.{run_of, drain_of};
 ghost use Rattle.lock.specs.Setup.{begun_of};
 ghost use Rattle.lock.specs.Run.{ran_of, rest_of, rest_trace};
 ghost use Rattle.lock.specs.Drain.{drained_of};
-ghost use Rattle.lock_held.specs.Together.{ran_together, drained_together};
 
 use atomic::Count;
 use cell::pred::Pred;
@@ -16,8 +15,6 @@ use lock::drain::DrainReturn;
 use lock::run::RunReturn;
 use lock::setup::Begun;
 use lock::{drain, run, setup};
-use lock_lent::drain::DrainedWith;
-use lock_lent::run::RanWith;
 use lock_words::names::MOST_THREADS;
 use machine::{Lists, Lock, Rec};
 
@@ -54,7 +51,7 @@ pub fn run(
     if count > MOST_THREADS {
         return run::run(lists, lock, recs, count, schedule, budget, trace);
     }
-    ran_together(front::run(
+    front::run(
         lists,
         lock,
         recs,
@@ -62,7 +59,7 @@ pub fn run(
         schedule,
         budget,
         trace,
-    ))
+    )
 }
 
 pub fn run_rest(
@@ -83,7 +80,7 @@ pub fn run_rest(
             lists, lock, recs, count, schedule, budget, used, trace,
         );
     }
-    ran_together(front::run_rest(
+    front::run_rest(
         lists,
         lock,
         recs,
@@ -92,7 +89,7 @@ pub fn run_rest(
         budget,
         used,
         trace,
-    ))
+    )
 }
 
 pub fn drain(
@@ -106,37 +103,5 @@ pub fn drain(
     if count > MOST_THREADS {
         return drain::drain(lists, lock, recs, count);
     }
-    drained_together(front::drain(lists, lock, recs, count as usize))
-}
-
-// The answer together with the records.
-fn ran_together(left: RanWith) -> RunReturn
-    ensures { result ≡ ran_together left }
-{
-    let ran = left.ran;
-    let refusal = ran.refusal;
-    let lock = ran.lock;
-    let recs = left.recs;
-    RunReturn {
-        refusal,
-        n: ran.n,
-        done: ran.done,
-        lock,
-        recs,
-    }
-}
-
-fn drained_together(left: DrainedWith) -> DrainReturn
-    ensures { result ≡ drained_together left }
-{
-    let drained = left.drained;
-    let refusal = drained.refusal;
-    let lock = drained.lock;
-    let recs = left.recs;
-    DrainReturn {
-        refusal,
-        n: drained.n,
-        lock,
-        recs,
-    }
+    front::drain(lists, lock, recs, count as usize)
 }

@@ -12,11 +12,13 @@ use Rattle.lock.specs.ByValue.{run_of, drain_of}
 use Rattle.lock.specs.Setup.{begun_of}
 use Rattle.lock.specs.declared.setup.Begun.{Begun}
 use Rattle.lock_lent.specs.Exchange.{front, shared}
-use Rattle.lock_lent.specs.Run.{ran_of}
-use Rattle.lock_lent.specs.Drain.{drained_of}
-use Rattle.lock_lent.specs.Taken.{taken, back, ran_with, drained_with}
-use Rattle.lock_lent.specs.declared.run.RanWith.{RanWith}
-use Rattle.lock_lent.specs.declared.drain.DrainedWith.{DrainedWith}
+use Rattle.lock.specs.Run.{ran_of as returned_run}
+use Rattle.lock.specs.Drain.{drained_of as returned_drain}
+use Rattle.lock_lent.specs.Run.{ran_of, ran_told}
+use Rattle.lock_lent.specs.Drain.{drained_of, drained_told}
+use Rattle.lock_lent.specs.Taken.{taken, back}
+use Rattle.lock.specs.declared.run.RunReturn.{RunReturn}
+use Rattle.lock.specs.declared.drain.DrainReturn.{DrainReturn}
 use Rattle.lock_lent.proofs.AnyLength.{emptied, emptied_length, put_again, setup_any_length, run_any_length, drain_any_length}
 
 -- the list l, sixteen blank records, the array that the first exchange gives and the list that it leaves
@@ -44,25 +46,25 @@ module _ (l blank array left : List Rec) (blank_is : blank ≡ fresh 16) (array_
       )
 
   module _ (s : Lent) (L : Lock) where
-    pub run_back : (schedule : List ℕ) (budget : ℕ) (trace : List ℕ) (d : RanWith) (after : List Rec) (rows : List ℕ)
-        → d ≡ ran_with (length left) array (run_of s (length left) L array schedule budget trace) → after ≡ front (shared left) d.recs left
+    pub run_back : (schedule : List ℕ) (budget : ℕ) (trace : List ℕ) (d : RunReturn) (after : List Rec) (rows : List ℕ)
+        → d ≡ returned_run (length left) array (run_of s (length left) L array schedule budget trace) → after ≡ front (shared left) d.recs left
         → rows ≡ (run_of s (length left) L array schedule budget trace).trace
-        → let made = run_lent s L l schedule budget trace in (d.ran ≡ ran_of made) × (after ≡ made.recs) × (rows ≡ made.trace)
+        → let made = run_lent s L l schedule budget trace in (d.ran ≡ ran_told (ran_of made)) × (after ≡ made.recs) × (rows ≡ made.trace)
     run_back schedule budget trace d after rows d_is after_is rows_are =
-        let e : d ≡ ran_with (length l) (taken l) (run_of s (length l) L (taken l) schedule budget trace) = d_is ∙ rw (taken_is, count_is) refl in
+        let e : d ≡ returned_run (length l) (taken l) (run_of s (length l) L (taken l) schedule budget trace) = d_is ∙ rw (taken_is, count_is) refl in
         let rows_too : rows ≡ (run_of s (length l) L (taken l) schedule budget trace).trace = rows_are ∙ rw (taken_is, count_is) refl in
         let law = run_any_length s L l schedule budget trace in (
-          ap (λ (x : RanWith). x.ran) e ∙ law.0,
-          back_is d.recs after after_is ∙ ap (λ (x : RanWith). back l x.recs) e ∙ law.1,
+          ap (λ (x : RunReturn). x.ran) e ∙ ap ran_told law.0,
+          back_is d.recs after after_is ∙ ap (λ (x : RunReturn). back l x.recs) e ∙ law.1,
           rows_too ∙ law.2,
         )
 
-    pub drain_back : (d : DrainedWith) (after : List Rec)
-        → d ≡ drained_with (length left) array (drain_of s (length left) L array) → after ≡ front (shared left) d.recs left
-        → let made = drain_lent s L l in (d.drained ≡ drained_of made) × (after ≡ made.recs)
+    pub drain_back : (d : DrainReturn) (after : List Rec)
+        → d ≡ returned_drain (length left) array (drain_of s (length left) L array) → after ≡ front (shared left) d.recs left
+        → let made = drain_lent s L l in (d.drained ≡ drained_told (drained_of made)) × (after ≡ made.recs)
     drain_back d after d_is after_is =
-        let e : d ≡ drained_with (length l) (taken l) (drain_of s (length l) L (taken l)) = d_is ∙ rw (taken_is, count_is) refl in
+        let e : d ≡ returned_drain (length l) (taken l) (drain_of s (length l) L (taken l)) = d_is ∙ rw (taken_is, count_is) refl in
         let law = drain_any_length s L l in (
-          ap (λ (x : DrainedWith). x.drained) e ∙ law.0,
-          back_is d.recs after after_is ∙ ap (λ (x : DrainedWith). back l x.recs) e ∙ law.1,
+          ap (λ (x : DrainReturn). x.drained) e ∙ ap drained_told law.0,
+          back_is d.recs after after_is ∙ ap (λ (x : DrainReturn). back l x.recs) e ∙ law.1,
         )

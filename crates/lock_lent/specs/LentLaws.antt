@@ -13,17 +13,15 @@ use Rattle.machine.specs.Drain.{drain_refusal, drain_lent}
 use Rattle.machine.specs.declared.Lock.{Lock}
 use Rattle.machine.specs.declared.Rec.{Rec}
 use Rattle.machine.specs.declared.Refusal.{Refusal}
-use Rattle.lock_lent.specs.declared.run.LentRunReturn.{LentRunReturn}
-use Rattle.lock_lent.specs.declared.drain.LentDrainReturn.{LentDrainReturn}
-use Rattle.lock_lent.specs.Run.{ran_of, rest_lent, rest_lent_trace, step_lent}
-use Rattle.lock_lent.specs.Drain.{drained_of}
+use Rattle.lock_lent.specs.Run.{RanLeft, ran_of, rest_lent, rest_lent_trace, step_lent}
+use Rattle.lock_lent.specs.Drain.{DrainedLeft, drained_of}
 
 -- ---- a refused call
--- what is returned: the refusal with what stands beside it, no entry, and the lock as it was
-abbrev pub refused_ran : Refusal → Lock → LentRunReturn
+-- what is left: the refusal with what stands beside it, no entry, and the lock as it was
+abbrev pub refused_ran : Refusal → Lock → RanLeft
 refused_ran why L = record { refusal = why; n = 0; done = 0; lock = L }
 
-abbrev pub refused_drained : Refusal → Lock → LentDrainReturn
+abbrev pub refused_drained : Refusal → Lock → DrainedLeft
 refused_drained why L = record { refusal = why; n = 0; lock = L }
 
 -- of setup over a list `machine` says it already

@@ -3,7 +3,6 @@ ghost use Rattle.std.specs.Prelude.{min, ◌≡◌};
 ghost use Rattle.machine.specs.Setup.{fresh};
 ghost use Rattle.lock_lent.specs.Exchange.{shared, front};
 
-use atomic::Count;
 use machine::{Place, Rec};
 
 // The array has room for as many records as there may be threads.
@@ -16,30 +15,19 @@ pub(crate) fn exchange(recs: &mut [Rec], with: [Rec; 16]) -> [Rec; 16]
 {
     let n = at_most_sixteen(recs.len());
     let mut out = with;
-    let mut i = 0;
-    while i < n {
-        let r = recs[i];
-        recs[i] = out[i];
-        out[i] = r;
-        i += 1;
-    }
+    recs[..n].swap_with_slice(&mut out[..n]);
     out
 }
 
 pub fn at_most_sixteen(n: usize) -> usize
     ensures { result ≡ min n 16 }
 {
-    if n < ARRAY { n } else { ARRAY }
+    n.min(ARRAY)
 }
 
 // Sixteen records as setup makes them, to take out against.
 pub fn blank() -> [Rec; 16]
     ensures { result ≡ fresh 16 }
 {
-    [Rec {
-        at: 0,
-        place: Place::Idle,
-        seen: Count(0),
-        taken: 0,
-    }; 16]
+    [lock_words::plain(0, Place::Idle); 16]
 }

@@ -19,8 +19,7 @@ pub fn setup(
     ensures value { result ≡ setup pred top.0 first (lent lists.entry) (length recs.old) }
     ensures recs_after { recs.new ≡ setup_recs pred top.0 first (lent lists.entry) recs.old }
 {
-    let blank = exchange::blank();
-    let taken = exchange::exchange(recs, blank);
+    let taken = exchange::exchange(recs, exchange::blank());
     let left = lock::setup::setup(pred, top, first, lists, taken, recs.len() as u64);
     exchange::exchange(recs, left.recs);
     left.start
