@@ -1,3 +1,4 @@
+pub mod Told
 pub mod Reached
 pub mod Cited
 pub mod Promises

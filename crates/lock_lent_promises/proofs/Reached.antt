@@ -16,6 +16,7 @@ use Rattle.machine.proofs.RunRule.{run_rule}
 use Rattle.lock_lent.specs.Run.{rest_lent, step_lent}
 use Rattle.lock_promises.specs.Reached.{Reached}
 use Rattle.lock_promises.proofs.Rows.{later_rows}
+use Rattle.lock_promises.proofs.Refusing.{none_number}
 use Rattle.lock_promises.proofs.Reached.{runs_on, comes}
 use Rattle.lock_lent_promises.specs.Reached.{ReachedLent}
 use Rattle.lock_lent_promises.specs.Promises.{LentIsReached}
@@ -42,7 +43,7 @@ reach {s} (ReachedLent.stepped {L} {l} before i trace r l' trace' given) =
     let (is, list, trace_is) = given in
     rw (is, list, trace_is) (Reached.ran (reach before) (i ∷ []) 1 trace (step_lent s L l i trace) refl)
 reach {s} (ReachedLent.drained {L} {l} before d l' es (is, list) none order) =
-    rw (is, list) (Reached.drained (reach before) (drain_lent s L l) es refl (rw is at none) (rw (is, list) at order))
+    rw (is, list) (Reached.drained (reach before) (drain_lent s L l) es refl (none_number _ (rw is at none)) (rw (is, list) at order))
 
 pub lent_is_reached : LentIsReached
 lent_is_reached s q m v L l rows reached = reach reached

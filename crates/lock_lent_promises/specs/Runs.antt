@@ -1,6 +1,6 @@
 -- What a run over a lent list, a later piece and a run of one entry leave, and that their answers are exact, whatever the state: said of
 -- what the functions of `lock_lent` return and leave in the lent lists.
-use Rattle.std.specs.Prelude.{ℕ, ◌*◌, ◌≤◌, ◌≡◌, ◌≢◌, List, [], ◌∷◌, ◌++◌, eqb, length, get_or, take, drop}
+use Rattle.std.specs.Prelude.{ℕ, ◌*◌, ◌≤◌, ◌≡◌, ◌≢◌, List, [], ◌∷◌, ◌++◌, eqb, length, get_or, take, drop, None}
 use Rattle.cell.specs.declared.pred.Pred.{Pred}
 use Rattle.machine.specs.Names.{row_words}
 use Rattle.machine.specs.Words.{bit}
@@ -13,8 +13,9 @@ use Rattle.machine.specs.declared.Lock.{Lock}
 use Rattle.machine.specs.declared.Rec.{Rec}
 use Rattle.std.specs.Prelude.{Ok, Result}
 use Rattle.machine.specs.declared.Refusal.{Refusal}
-use Rattle.lock_lent.specs.declared.run.LentRunReturn.{LentRunReturn}
-use Rattle.lock_lent.specs.declared.drain.LentDrainReturn.{LentDrainReturn}
+use Rattle.lock.specs.declared.run.Ran.{Ran}
+use Rattle.lock.specs.declared.drain.Drained.{Drained}
+use Rattle.lock_promises.specs.Given.{refusal_in}
 use Rattle.lock_promises.specs.Runs.{IsRun}
 use Rattle.lock_promises.specs.Answers.{ExactRefusal, SetupSays, BeginsWith}
 use Rattle.lock_lent_promises.specs.Reached.{GivenBySetup, GivenByRun, GivenByRest, GivenByStep, GivenByDrain}
@@ -22,31 +23,31 @@ use Rattle.lock_lent_promises.specs.Reached.{GivenBySetup, GivenByRun, GivenByRe
 -- ---- a run that is not refused is machine's run of the first entries of its schedule
 abbrev pub RunIsRun : Type 0
 RunIsRun =
-    (s : Lent) (L : Lock) (l : List Rec) (schedule : List ℕ) (budget : ℕ) (trace : List ℕ) (r : LentRunReturn) (l' : List Rec) (trace' : List ℕ)
-    → GivenByRun s L l schedule budget trace r l' trace' → r.refusal.number ≡ 0
+    (s : Lent) (L : Lock) (l : List Rec) (schedule : List ℕ) (budget : ℕ) (trace : List ℕ) (r : Ran) (l' : List Rec) (trace' : List ℕ)
+    → GivenByRun s L l schedule budget trace r l' trace' → r.refusal ≡ None
     → IsRun s L l schedule budget trace r.n r.done r.lock l' trace'
 
 -- a later piece is a run into what comes after the first `used` rows of the trace list, and these stay
 abbrev pub RestIsRun : Type 0
 RestIsRun =
-    (s : Lent) (L : Lock) (l : List Rec) (schedule : List ℕ) (budget used : ℕ) (trace : List ℕ) (r : LentRunReturn) (l' : List Rec) (trace' : List ℕ)
-    → GivenByRest s L l schedule budget used trace r l' trace' → r.refusal.number ≡ 0
+    (s : Lent) (L : Lock) (l : List Rec) (schedule : List ℕ) (budget used : ℕ) (trace : List ℕ) (r : Ran) (l' : List Rec) (trace' : List ℕ)
+    → GivenByRest s L l schedule budget used trace r l' trace' → r.refusal ≡ None
     → let k = row_words * used in
     IsRun s L l schedule budget (drop k trace) r.n r.done r.lock l' (drop k trace') × (take k trace' ≡ take k trace)
 
 -- a step is a run of one entry with a budget of 1, so what is said of runs is said of steps
 abbrev pub StepIsRun : Type 0
 StepIsRun =
-    (s : Lent) (L : Lock) (l : List Rec) (i : ℕ) (trace : List ℕ) (r : LentRunReturn) (l' : List Rec) (trace' : List ℕ) → GivenByStep s L l i trace r l' trace'
+    (s : Lent) (L : Lock) (l : List Rec) (i : ℕ) (trace : List ℕ) (r : Ran) (l' : List Rec) (trace' : List ℕ) → GivenByStep s L l i trace r l' trace'
     → GivenByRun s L l (i ∷ []) 1 trace r l' trace'
 
 -- ---- a run of one entry
 -- not refused, with a budget and room for a row, it is machine's step
 abbrev pub OneEntry : Type 0
 OneEntry =
-    (s : Lent) (L : Lock) (l : List Rec) (i budget : ℕ) (trace : List ℕ) (r : LentRunReturn) (l' : List Rec) (trace' : List ℕ)
+    (s : Lent) (L : Lock) (l : List Rec) (i budget : ℕ) (trace : List ℕ) (r : Ran) (l' : List Rec) (trace' : List ℕ)
     → GivenByRun s L l (i ∷ []) budget trace r l' trace'
-    → r.refusal.number ≡ 0 → 1 ≤ budget → row_words ≤ length trace
+    → r.refusal ≡ None → 1 ≤ budget → row_words ≤ length trace
     → let x = step (scripts_of s) L l i in
     (r.n ≡ 1)
     × (r.done ≡ bit (eqb x.row.answer 0))
@@ -57,7 +58,7 @@ OneEntry =
 -- the answer in its row is exact
 abbrev pub EntryAnswer : Type 0
 EntryAnswer =
-    (s : Lent) (L : Lock) (l : List Rec) (i budget : ℕ) (trace : List ℕ) (r : LentRunReturn) (l' : List Rec) (trace' : List ℕ)
+    (s : Lent) (L : Lock) (l : List Rec) (i budget : ℕ) (trace : List ℕ) (r : Ran) (l' : List Rec) (trace' : List ℕ)
     → GivenByRun s L l (i ∷ []) budget trace r l' trace' → r.n ≡ 1
     → Exact (AtEntry (scripts_of s) L l i) (get_or trace' 2 0)
 
@@ -65,7 +66,7 @@ EntryAnswer =
 -- and the count as they stand
 abbrev pub RefusedEntry : Type 0
 RefusedEntry =
-    (s : Lent) (L : Lock) (l : List Rec) (i budget : ℕ) (trace : List ℕ) (r : LentRunReturn) (l' : List Rec) (trace' : List ℕ)
+    (s : Lent) (L : Lock) (l : List Rec) (i budget : ℕ) (trace : List ℕ) (r : Ran) (l' : List Rec) (trace' : List ℕ)
     → GivenByRun s L l (i ∷ []) budget trace r l' trace' → r.n ≡ 1 → get_or trace' 2 0 ≢ 0
     → (r.lock ≡ L)
     × (l' ≡ l)
@@ -85,16 +86,16 @@ SetupState =
 
 abbrev pub RunAnswer : Type 0
 RunAnswer =
-    (s : Lent) (L : Lock) (l : List Rec) (schedule : List ℕ) (budget : ℕ) (trace : List ℕ) (r : LentRunReturn) (l' : List Rec) (trace' : List ℕ)
+    (s : Lent) (L : Lock) (l : List Rec) (schedule : List ℕ) (budget : ℕ) (trace : List ℕ) (r : Ran) (l' : List Rec) (trace' : List ℕ)
     → GivenByRun s L l schedule budget trace r l' trace'
-    → ExactRefusal (AtRun s L l) s r.refusal
+    → ExactRefusal (AtRun s L l) s (refusal_in r.refusal)
 
 abbrev pub RestAnswer : Type 0
 RestAnswer =
-    (s : Lent) (L : Lock) (l : List Rec) (schedule : List ℕ) (budget used : ℕ) (trace : List ℕ) (r : LentRunReturn) (l' : List Rec) (trace' : List ℕ)
+    (s : Lent) (L : Lock) (l : List Rec) (schedule : List ℕ) (budget used : ℕ) (trace : List ℕ) (r : Ran) (l' : List Rec) (trace' : List ℕ)
     → GivenByRest s L l schedule budget used trace r l' trace'
-    → ExactRefusal (AtRun s L l) s r.refusal
+    → ExactRefusal (AtRun s L l) s (refusal_in r.refusal)
 
 abbrev pub DrainAnswer : Type 0
 DrainAnswer =
-    (s : Lent) (L : Lock) (l : List Rec) (d : LentDrainReturn) (l' : List Rec) → GivenByDrain s L l d l' → ExactRefusal (AtDrain s L l) s d.refusal
+    (s : Lent) (L : Lock) (l : List Rec) (d : Drained) (l' : List Rec) → GivenByDrain s L l d l' → ExactRefusal (AtDrain s L l) s (refusal_in d.refusal)
