@@ -22,11 +22,13 @@ pub enum Refusal {
 }
 
 // The number that the table of refusals has for it.
-pub fn number(why: Refusal) -> u64
-    ensures { result ≡ number_of why }
-{
-    match why {
-        Refusal::Foreign => 21,
-        Refusal::Outside => 22,
+impl From<Refusal> for u64 {
+    ghost from_gives = { λ why number. number ≡ number_of why };
+
+    fn from(why: Refusal) -> u64 {
+        match why {
+            Refusal::Foreign => 21,
+            Refusal::Outside => 22,
+        }
     }
 }

@@ -237,7 +237,7 @@ fn in_numbers<V: Copy, F: Fn(V) -> u64>(did: Did<V>, number: F) -> Outcome
         Answer::Old(old) => (0, 1, number(old)),
         Answer::Failed(old) => (0, 2, number(old)),
         Answer::Stored => (0, 0, 0),
-        Answer::Refused(why) => (atomic::number(why), 0, 0),
+        Answer::Refused(why) => (u64::from(why), 0, 0),
     };
     Outcome {
         number: why,

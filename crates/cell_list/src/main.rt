@@ -221,7 +221,7 @@ fn left_cell(cells: Cells, permission: u64, did: value::Did) -> Option<(Cells, T
 
 fn number_of(answer: Answer) -> u64 {
     match answer {
-        Answer::Refused(why) => cell::number(why),
+        Answer::Refused(why) => u64::from(why),
         _ => 0,
     }
 }
@@ -247,7 +247,7 @@ fn new(cells: Cells, call: Call) -> Option<(Cells, Told)> {
     let made = inv::new(call.d, p);
     let number = match made {
         Ok(_) => 0,
-        Err(why) => cell::number(why),
+        Err(why) => u64::from(why),
     };
     Some(left_inv(Cells { made, ..cells }, number, 0))
 }

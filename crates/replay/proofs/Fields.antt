@@ -14,7 +14,7 @@ use Rattle.scenario_lines.specs.Number.{number}
 use Rattle.scenario_lines.proofs.Scans.{part_whole, fields_cut, fields_one}
 use Rattle.replay.specs.Lists.{part_of, place_of}
 use Rattle.replay.specs.Numbers.{Filled, filled, is_put, put_in, fill}
-use Rattle.std.specs.declared.option.Option.TheVariants.{None, Some}
+use Rattle.std.specs.Prelude.{Option, None, Some}
 use Rattle.replay.proofs.Scans.{part_in}
 
 place_by : (t : Bool) (n m : ℕ) → n ≤ m → cond t 0 (suc n) ≤ suc m

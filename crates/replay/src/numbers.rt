@@ -32,7 +32,11 @@ pub fn numbers(text: &[u8], words: &mut [u64]) -> Option<usize>
 pub fn is_wrong(text: &[u8]) -> bool
     ensures { result ≡ on_purpose text.now }
 {
-    parse_number(part(text, 0, find(text, 0, b','))) == Some(WRONG)
+    let what = parse_number(part(text, 0, find(text, 0, b',')));
+    match what {
+        Some(n) => n == WRONG,
+        None => false,
+    }
 }
 
 fn put(words: &mut [u64], at: usize, what: Option<u64>) -> bool
