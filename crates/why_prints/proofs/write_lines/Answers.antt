@@ -2,7 +2,7 @@
 -- nothing.
 use mathlib.Core.Path.{◌≡◌}
 use native.Mathlib.Omega.{arith}
-use Rattle.machine.specs.Lists.{lists}
+use Rattle.machine.specs.Lists.{lent}
 use Rattle.why_code.specs.ByValue.{told_of}
 use Rattle.why_prints.proofs.Texts.{begins, goes_on, all_there}
 use Rattle.why_prints.proofs.write_lines.Goals as goal
@@ -10,7 +10,7 @@ use Rattle.why_prints.proofs.write_lines.Goals as goal
 pub loop-t-init : goal.loop-t-init
 loop-t-init c =
     let a = c.args in
-    (omega arith, omega (arith, c.smaller-n.ensures), begins (told_of (lists a.lens.now a.ops.now a.vals.now) _ _ _) a.out.now a.at)
+    (omega arith, omega (arith, c.smaller-n.ensures), begins (told_of (lent a.lists) _ _ _) a.out.now a.at)
 
 pub write_line-p-requires : goal.write_line-p-requires
 write_line-p-requires c =
@@ -24,7 +24,7 @@ loop-t-preserved c =
     let a = c.args in
     let lt = c.loop-t-test.true in
     let why = c.why-told in
-    (omega (arith, lt), l.invariant.1, goes_on (told_of (lists a.lens.now a.ops.now a.vals.now) _ _ _) a.out.now a.at l.t l.p l.out why.result _ _ l.invariant.2 why.ensures c.write_line-p.ensures)
+    (omega (arith, lt), l.invariant.1, goes_on (told_of (lent a.lists) _ _ _) a.out.now a.at l.t l.p l.out why.result _ _ l.invariant.2 why.ensures c.write_line-p.ensures)
 
 pub returns : goal.returns
 returns c =
@@ -32,4 +32,4 @@ returns c =
     let l = c.loop-t in
     let n = c.smaller-n in
     let all : l.t ≡ n.result = omega (arith, l.invariant.0, c.loop-t-test.false) in
-    all_there (lists a.lens.now a.ops.now a.vals.now) a.standing n.ensures all l.invariant.2
+    all_there (lent a.lists) a.standing n.ensures all l.invariant.2
