@@ -5,7 +5,7 @@ use mathlib.Core.Path.{◌≡◌, refl, ap, sym, subst, ◌∙◌}
 use native.Mathlib.Omega.{arith}
 use lib.ListN.{take}
 use lib.Seq.{sets, length-sets}
-use Rattle.machine.specs.Lists.{Lent, lists, scripts_of}
+use Rattle.machine.specs.Lists.{Lent, lent, scripts_of}
 use Rattle.machine.specs.Drain.{Went, until, sweep}
 use Rattle.lock.specs.Drain.{stop_of}
 use Rattle.lock_order.specs.Write.{went_of}
@@ -36,7 +36,7 @@ pub loop-k-preserved : goal.loop-k-preserved
 loop-k-preserved c =
     let first = c in
     let a = first.args in
-    let s = lists a.lens.now a.ops.now a.vals.now in
+    let s = lent a.lists in
     let l = c.loop-k in
     let many = as_many s a.count l.g l.invariant.0 in
     let stop = stop_of a.stop (scripts_of s) in
@@ -57,7 +57,7 @@ pub until-g-requires-clause-able : goal.until-g-requires-clause-able
 until-g-requires-clause-able c =
     let first = c in
     let a = first.args in
-    let s = lists a.lens.now a.ops.now a.vals.now in
+    let s = lent a.lists in
     let l = c.loop-k in
     let many = as_many s a.count l.g l.invariant.0 in
     let stop = stop_of a.stop (scripts_of s) in
@@ -68,7 +68,7 @@ pub until-g-requires-clause-i_in_bounds : goal.until-g-requires-clause-i_in_boun
 until-g-requires-clause-i_in_bounds c =
     let first = c in
     let a = first.args in
-    let s = lists a.lens.now a.ops.now a.vals.now in
+    let s = lent a.lists in
     let l = c.loop-k in
     let many = as_many s a.count l.g l.invariant.0 in
     let stop = stop_of a.stop (scripts_of s) in
@@ -79,7 +79,7 @@ pub until-g-requires-clause-recs_in_bounds : goal.until-g-requires-clause-recs_i
 until-g-requires-clause-recs_in_bounds c =
     let first = c in
     let a = first.args in
-    let s = lists a.lens.now a.ops.now a.vals.now in
+    let s = lent a.lists in
     let l = c.loop-k in
     let many = as_many s a.count l.g l.invariant.0 in
     let stop = stop_of a.stop (scripts_of s) in
@@ -90,7 +90,7 @@ pub returns-clause-able_2 : goal.returns-clause-able_2
 returns-clause-able_2 c =
     let first = c in
     let a = first.args in
-    let s = lists a.lens.now a.ops.now a.vals.now in
+    let s = lent a.lists in
     let l = c.loop-k in
     let many = as_many s a.count l.g l.invariant.0 in
     let stop = stop_of a.stop (scripts_of s) in
@@ -101,7 +101,7 @@ pub returns-clause-result_value : goal.returns-clause-result_value
 returns-clause-result_value c =
     let first = c in
     let a = first.args in
-    let s = lists a.lens.now a.ops.now a.vals.now in
+    let s = lent a.lists in
     let l = c.loop-k in
     let many = as_many s a.count l.g l.invariant.0 in
     let stop = stop_of a.stop (scripts_of s) in
@@ -112,7 +112,7 @@ pub returns-clause-out_after : goal.returns-clause-out_after
 returns-clause-out_after c =
     let first = c in
     let a = first.args in
-    let s = lists a.lens.now a.ops.now a.vals.now in
+    let s = lent a.lists in
     let l = c.loop-k in
     let many = as_many s a.count l.g l.invariant.0 in
     let stop = stop_of a.stop (scripts_of s) in

@@ -5,7 +5,7 @@ use mathlib.Core.Path.{◌≡◌, ap, sym, subst, ◌∙◌}
 use native.Mathlib.Omega.{arith}
 use lib.ListN.{take, set, length-set}
 use lib.Seq.{sets}
-use Rattle.machine.specs.Lists.{Lent, lists, scripts_of}
+use Rattle.machine.specs.Lists.{Lent, lent, scripts_of}
 use Rattle.machine.specs.Drain.{Went, until}
 use Rattle.lock.specs.Drain.{stop_of}
 use Rattle.lock_order.specs.Write.{Able, went_of}
@@ -23,7 +23,7 @@ offset_bounds-recs-i c =
     let first = c in
     let a = first.args in
     let l = c.loop-left in
-    let s = lists a.lens.now a.ops.now a.vals.now in
+    let s = lent a.lists in
     omega (arith, first.requires.i_in_bounds, as_many s a.count l.g l.invariant.0, few s a.count l.g l.invariant.0)
 
 pub bounds-recs-i : goal.bounds-recs-i
@@ -31,14 +31,14 @@ bounds-recs-i c =
     let first = c in
     let a = first.args in
     let l = c.loop-left in
-    let s = lists a.lens.now a.ops.now a.vals.now in
+    let s = lent a.lists in
     omega (arith, first.requires.i_in_bounds, as_many s a.count l.g l.invariant.0, few s a.count l.g l.invariant.0, l.invariant.0.1)
 
 pub offset_bounds-out-at : goal.offset_bounds-out-at
 offset_bounds-out-at c =
     let first = c in
     let a = first.args in
-    let s = lists a.lens.now a.ops.now a.vals.now in
+    let s = lent a.lists in
     let l = c.loop-left in
     let there : a.i < a.count = omega (arith, first.requires.i_in_bounds, as_many s a.count l.g l.invariant.0) in
     let stop = stop_of a.stop (scripts_of s) in
@@ -50,7 +50,7 @@ pub bounds-out-at : goal.bounds-out-at
 bounds-out-at c =
     let first = c in
     let a = first.args in
-    let s = lists a.lens.now a.ops.now a.vals.now in
+    let s = lent a.lists in
     let l = c.loop-left in
     let there : a.i < a.count = omega (arith, first.requires.i_in_bounds, as_many s a.count l.g l.invariant.0) in
     let stop = stop_of a.stop (scripts_of s) in
@@ -62,7 +62,7 @@ pub loop-left-preserved : goal.loop-left-preserved
 loop-left-preserved c =
     let first = c in
     let a = first.args in
-    let s = lists a.lens.now a.ops.now a.vals.now in
+    let s = lent a.lists in
     let l = c.loop-left in
     let there : a.i < a.count = omega (arith, first.requires.i_in_bounds, as_many s a.count l.g l.invariant.0) in
     let stop = stop_of a.stop (scripts_of s) in
@@ -83,7 +83,7 @@ pub returns-then-stops-clause-able_2 : goal.returns-then-stops-clause-able_2
 returns-then-stops-clause-able_2 c =
     let first = c in
     let a = first.args in
-    let s = lists a.lens.now a.ops.now a.vals.now in
+    let s = lent a.lists in
     let l = c.loop-left in
     let there : a.i < a.count = omega (arith, first.requires.i_in_bounds, as_many s a.count l.g l.invariant.0) in
     let stop = stop_of a.stop (scripts_of s) in
@@ -95,7 +95,7 @@ pub returns-then-stops-clause-result_value : goal.returns-then-stops-clause-resu
 returns-then-stops-clause-result_value c =
     let first = c in
     let a = first.args in
-    let s = lists a.lens.now a.ops.now a.vals.now in
+    let s = lent a.lists in
     let l = c.loop-left in
     let there : a.i < a.count = omega (arith, first.requires.i_in_bounds, as_many s a.count l.g l.invariant.0) in
     let stop = stop_of a.stop (scripts_of s) in
@@ -107,7 +107,7 @@ pub returns-then-stops-clause-out_after : goal.returns-then-stops-clause-out_aft
 returns-then-stops-clause-out_after c =
     let first = c in
     let a = first.args in
-    let s = lists a.lens.now a.ops.now a.vals.now in
+    let s = lent a.lists in
     let l = c.loop-left in
     let there : a.i < a.count = omega (arith, first.requires.i_in_bounds, as_many s a.count l.g l.invariant.0) in
     let stop = stop_of a.stop (scripts_of s) in
@@ -119,7 +119,7 @@ pub stepped-g-requires-clause-able : goal.stepped-g-requires-clause-able
 stepped-g-requires-clause-able c =
     let first = c in
     let a = first.args in
-    let s = lists a.lens.now a.ops.now a.vals.now in
+    let s = lent a.lists in
     let l = c.loop-left in
     let there : a.i < a.count = omega (arith, first.requires.i_in_bounds, as_many s a.count l.g l.invariant.0) in
     let stop = stop_of a.stop (scripts_of s) in
@@ -131,7 +131,7 @@ pub stepped-g-requires-clause-used_bound : goal.stepped-g-requires-clause-used_b
 stepped-g-requires-clause-used_bound c =
     let first = c in
     let a = first.args in
-    let s = lists a.lens.now a.ops.now a.vals.now in
+    let s = lent a.lists in
     let l = c.loop-left in
     let there : a.i < a.count = omega (arith, first.requires.i_in_bounds, as_many s a.count l.g l.invariant.0) in
     let stop = stop_of a.stop (scripts_of s) in
@@ -143,7 +143,7 @@ pub returns-clause-able_2 : goal.returns-clause-able_2
 returns-clause-able_2 c =
     let first = c in
     let a = first.args in
-    let s = lists a.lens.now a.ops.now a.vals.now in
+    let s = lent a.lists in
     let l = c.loop-left in
     let there : a.i < a.count = omega (arith, first.requires.i_in_bounds, as_many s a.count l.g l.invariant.0) in
     let stop = stop_of a.stop (scripts_of s) in
@@ -154,7 +154,7 @@ pub returns-clause-result_value : goal.returns-clause-result_value
 returns-clause-result_value c =
     let first = c in
     let a = first.args in
-    let s = lists a.lens.now a.ops.now a.vals.now in
+    let s = lent a.lists in
     let l = c.loop-left in
     let there : a.i < a.count = omega (arith, first.requires.i_in_bounds, as_many s a.count l.g l.invariant.0) in
     let stop = stop_of a.stop (scripts_of s) in
@@ -165,7 +165,7 @@ pub returns-clause-out_after : goal.returns-clause-out_after
 returns-clause-out_after c =
     let first = c in
     let a = first.args in
-    let s = lists a.lens.now a.ops.now a.vals.now in
+    let s = lent a.lists in
     let l = c.loop-left in
     let there : a.i < a.count = omega (arith, first.requires.i_in_bounds, as_many s a.count l.g l.invariant.0) in
     let stop = stop_of a.stop (scripts_of s) in

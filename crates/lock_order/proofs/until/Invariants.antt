@@ -4,7 +4,7 @@ use Prim.Native.Nat.{ℕ}
 use mathlib.Core.Path.{◌≡◌}
 use lib.ListN.{length, take}
 use lib.Seq.{sets}
-use Rattle.machine.specs.Lists.{Lent, lists, scripts_of}
+use Rattle.machine.specs.Lists.{Lent, lent, scripts_of}
 use Rattle.machine.specs.Drain.{Went, until}
 use Rattle.lock.specs.Drain.{stop_of}
 use Rattle.lock_order.specs.Write.{Able, went_of}
@@ -18,7 +18,7 @@ Turn s count stop i g left = until (stop_of stop (scripts_of s)) (scripts_of s) 
 
 abbrev pub invariant-loop-left : goal.invariant-loop-left
 invariant-loop-left l =
-    let s = lists l.lens l.ops l.vals in
+    let s = lent l.lists in
     Able s l.count l.g
     × (went_of l.count l.g (Turn s l.count l.stop l.i l.g l.left) ≡ went_of l.count l.initial.g (Turn s l.count l.stop l.i l.initial.g l.fuel))
     × (sets l.out l.g.used (Turn s l.count l.stop l.i l.g l.left).made ≡ sets l.initial.out l.initial.g.used (Turn s l.count l.stop l.i l.initial.g l.fuel).made)
