@@ -323,24 +323,22 @@ fn ordered(line: &[u64], p: Parts, given: Given, out: &mut [u64]) -> Told {
 fn asked(line: &[u64], p: Parts, given: Given) -> Told {
     let lock = given.lock;
     let recs = given.recs;
-    let told = why_code::why(
-        lens_of(line, p),
-        ops_of(line, p),
-        vals_of(line, p),
-        lock,
-        recs,
-        given.count,
-        word(schedule_of(line, p), 0),
-    );
+    let lists = machine::Lists {
+        lens: lens_of(line, p),
+        ops: ops_of(line, p),
+        vals: vals_of(line, p),
+    };
+    let thread = word(schedule_of(line, p), 0);
+    let told = why_code::why(lists, lock, recs, given.count, thread);
     let numbers = why_code::numbers_of(told);
     let refusal = refusal_in(told);
     told_by(true, refusal, numbers.reason, numbers.who, lock, recs)
 }
 
-fn refusal_in(told: why::Told) -> Refusal {
+fn refusal_in(told: Result<why::Reason, Refusal>) -> Refusal {
     match told {
-        why::Told::Refused(no) => no,
-        why::Told::Given(_) => not_refused(),
+        Err(refusal) => refusal,
+        Ok(_) => not_refused(),
     }
 }
 

@@ -76,8 +76,9 @@ fn write_lines(
     ensures { let s = lent lists.entry in Put out.old at (lines_text (told_at s standing) 0 (threads_of s)) 1360 result out.new }
 {
     let count = lists.lens.len() as u64;
+    let n = count.min(MOST_THREADS);
     let mut p = at;
-    for t in 0..count.min(MOST_THREADS) {
+    for t in 0..n {
         let told = why_code::why(lists, standing.lock, standing.recs, count, t);
         p = write_line(t, told, out, p);
     }
