@@ -51,16 +51,12 @@ pub fn drain(lists: Lists, lock: Lock, recs: [Rec; 16], count: u64) -> DrainRetu
             recs,
         };
     }
-    let Going {
-        lock,
-        recs,
-        used,
-        ..
-    } = drain_ready(lists, lock, recs);
+    let end = drain_ready(lists, lock, recs);
+    let recs = end.recs;
     DrainReturn {
         refusal: why,
-        n: used,
-        lock,
+        n: end.used,
+        lock: end.lock,
         recs,
     }
 }

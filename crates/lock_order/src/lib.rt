@@ -12,13 +12,10 @@ ghost use Rattle.lock_order.specs.Write.{Able, one_of, within, went_of};
 
 use lock::drain::{Stop, stops};
 use lock_words::names::NONE;
-use machine::{Lists, Lock, Rec, Refusal};
+use machine::{Lists, Lock, ROW_WORDS, Rec, Refusal};
 
 // The refusal where the entries have no room.
 pub const NO_ROOM: u64 = 41;
-
-// The words of a row of a run.
-const ROW: usize = 6;
 
 // The refusal, whose number is 0 for none; how many entries were written; how many they are at most by the rules: the plain cost of the
 // state given and three a thread.
@@ -96,10 +93,8 @@ fn sweep(stop: Stop, fuel: u64, from: Going, lists: Lists, count: u64, out: &mut
     ensures out_after { let S = scripts_of (lent lists.entry) in out.new ≡ sets out.old from.used (sweep (stop_of stop S) S fuel 0 count from.lock (take count from.recs)).made }
 {
     let mut g = from;
-    let mut k = 0;
-    while k < lists.lens.len() {
+    for k in 0..lists.lens.len() {
         g = until(stop, k, fuel, g, lists, count, out);
-        k += 1;
     }
     g
 }
@@ -121,19 +116,13 @@ fn until(
     ensures result_value { let S = scripts_of (lent lists.entry) in result ≡ went_of count from (until (stop_of stop S) S i fuel from.lock (take count from.recs)) }
     ensures out_after { let S = scripts_of (lent lists.entry) in out.new ≡ sets out.old from.used (until (stop_of stop S) S i fuel from.lock (take count from.recs)).made }
 {
-    let len = lists.lens[i];
     let mut g = from;
-    let mut left = fuel;
-    while 0 < left {
-        let recs = g.recs;
-        let rec = recs[i];
-        if stops(stop, rec, len) {
+    for _ in 0..fuel {
+        if stops(stop, g.recs[i], lists.lens[i]) {
             return g;
         }
-        let at = g.used;
-        out[at] = i as u64;
+        out[g.used] = i as u64;
         g = stepped(g, i as u64, lists, count);
-        left -= 1;
     }
     g
 }
@@ -144,16 +133,13 @@ fn stepped(from: Going, i: u64, lists: Lists, count: u64) -> Going
     requires used_bound { from.used + 1 < 2 ^ 64 }
     ensures { result ≡ went_of count from (one_of (scripts_of (lent lists.entry)) from.lock (take count from.recs) i) }
 {
-    let schedule = [i];
-    let mut row = [0; ROW];
-    let lock = from.lock;
-    let recs = from.recs;
-    let ran = lock::run::run(lists, lock, recs, count, &schedule, 1, &mut row);
-    let lock = ran.lock;
+    let Going { lock, recs, used } = from;
+    let mut row = [0; ROW_WORDS];
+    let ran = lock::run::run(lists, lock, recs, count, &[i], 1, &mut row);
     let recs = ran.recs;
     Going {
-        lock,
+        lock: ran.lock,
         recs,
-        used: from.used + 1,
+        used: used + 1,
     }
 }

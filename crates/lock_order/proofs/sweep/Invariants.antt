@@ -27,6 +27,3 @@ invariant-loop-k l =
     × (went_of l.count l.g (Part s l.count l.stop l.fuel l.g l.k (l.count - l.k)) ≡ went_of l.count l.initial.g (Part s l.count l.stop l.fuel l.initial.g 0 l.count))
     × (sets l.out l.g.used (Part s l.count l.stop l.fuel l.g l.k (l.count - l.k)).made ≡ sets l.initial.out l.initial.g.used (Part s l.count l.stop l.fuel l.initial.g 0 l.count).made)
     × (length l.out ≡ length l.initial.out)
-
-abbrev pub decreases-loop-k : goal.decreases-loop-k
-decreases-loop-k l = length l.lists.lens.now - l.k

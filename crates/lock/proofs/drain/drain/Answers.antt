@@ -10,8 +10,8 @@ returns-then-why-ne-NONE c =
     let why = c.refusal-why in
     left_alone s a.count a.lock a.recs why.result why.ensures c.if-why-ne-NONE.true
 
-pub drain_ready-used-requires : goal.drain_ready-used-requires
-drain_ready-used-requires c =
+pub drain_ready-end-requires : goal.drain_ready-end-requires
+drain_ready-end-requires c =
     let a = c.args in
     let s = lent a.lists in
     let why = c.refusal-why in
@@ -22,5 +22,5 @@ returns c =
     let a = c.args in
     let s = lent a.lists in
     let why = c.refusal-why in
-    let end = c.drain_ready-used in
+    let end = c.drain_ready-end in
     made s a.count a.lock a.recs why.result why.ensures end.result c.if-why-ne-NONE.false end.ensures
