@@ -1,9 +1,9 @@
 -- The search of the definition is the library's: the first record that passes, if there is one.
-use Rattle.std.proofs.Common.{◌≡◌, ◌≢◌, ℕ, zero, suc, ◌+◌, ◌<◌, ◌≤◌, Bool, true, false, cond, length, refl, sym, ap, ◌∙◌, arith, List}
+use Rattle.std.proofs.Common.{◌≡◌, ℕ, zero, suc, ◌+◌, ◌≤◌, Bool, true, false, cond, length, sym, ap, arith, List}
 use lib.Dec.{ltb}
 use Rattle.std.specs.Prelude.{None, Some}
 use Rattle.std.specs.List.{position, position_or_len}
-use Rattle.std.proofs.lemmas.List.Sums.{position_or_len_is, prefix_len-le-length}
+use Rattle.std.proofs.lemmas.List.Sums.{position_or_len_is}
 use Rattle.machine.specs.Words.{unbegun}
 use Rattle.machine.specs.Lists.{find}
 use Rattle.machine.specs.Step.{here}

@@ -11,9 +11,7 @@ ghost use Rattle.why.specs.Told.{numbers_of};
 ghost use Rattle.why_code.specs.ByValue.{told_of};
 
 use lock::run;
-use lock_words::names::{
-    FAILS_EXC, FAILS_RC, LOADS_EXC, LOADS_RC, NONE, WAITS_RC, YES,
-};
+use lock_words::names::{FAILS_EXC, FAILS_RC, LOADS_EXC, LOADS_RC, NONE, WAITS_RC, YES};
 use machine::{Lists, Lock, Place, ROW_WORDS, Rec, Refusal};
 use why::{Numbers, Reason};
 
@@ -80,10 +78,7 @@ fn has_flag(r: &Rec) -> bool
 fn is_counted(r: &Rec) -> bool
     ensures { result ≡ is_counted r.now }
 {
-    matches!(
-        r.place,
-        Place::ReadCheck | Place::ReadBack | Place::Reading
-    )
+    matches!(r.place, Place::ReadCheck | Place::ReadBack | Place::Reading)
 }
 
 // ---- in numbers

@@ -35,13 +35,7 @@ pub fn put_end(
     at
 }
 
-fn write_end(
-    stop: Stop,
-    lists: Lists,
-    standing: Standing,
-    out: &mut [u8],
-    at: usize,
-) -> usize
+fn write_end(stop: Stop, lists: Lists, standing: Standing, out: &mut [u8], at: usize) -> usize
     requires { at + 1386 ≤ length out.old }
     ensures { Put out.old at (end_text stop (lent lists.entry) standing) 1386 result out.new }
 {
@@ -53,12 +47,7 @@ fn write_end(
     }
 }
 
-fn write_answers(
-    lists: Lists,
-    standing: Standing,
-    out: &mut [u8],
-    at: usize,
-) -> usize
+fn write_answers(lists: Lists, standing: Standing, out: &mut [u8], at: usize) -> usize
     requires { at + 1386 ≤ length out.old }
     ensures { Put out.old at (answers_of (lent lists.entry) standing) 1386 result out.new }
 {
@@ -66,12 +55,7 @@ fn write_answers(
     write_lines(lists, standing, out, n)
 }
 
-fn write_lines(
-    lists: Lists,
-    standing: Standing,
-    out: &mut [u8],
-    at: usize,
-) -> usize
+fn write_lines(lists: Lists, standing: Standing, out: &mut [u8], at: usize) -> usize
     requires { at + 1360 ≤ length out.old }
     ensures { let s = lent lists.entry in Put out.old at (lines_text (told_at s standing) 0 (threads_of s)) 1360 result out.new }
 {

@@ -1,9 +1,8 @@
 -- `blocker_of` meets its contract: the place that is found is the definition's. Assumes nothing.
-use Rattle.std.proofs.Common.{rules, ◌≡◌, Bool, ℕ, refl, sym, ◌∙◌}
+use Rattle.std.proofs.Common.{rules, ◌≡◌, sym, ◌∙◌}
 use Rattle.std.specs.List.{position}
 use Rattle.std.proofs.lemmas.Iterator.{YieldsList-from_slice}
 use Rattle.std.proofs.lemmas.Iterator.Search.{position_from_yields_List}
-use Rattle.why.specs.Why.{blocker_of}
 use Rattle.why_code.proofs.First.{blocker_is}
 use Rattle.why_code.proofs.blocker_of.Goals as goal
 
