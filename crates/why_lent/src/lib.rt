@@ -22,8 +22,8 @@ pub fn why(lists: Lists, lock: Lock, recs: &[Rec], thread: u64) -> Result<Reason
 pub(crate) fn taken(recs: &[Rec]) -> [Rec; 16]
     ensures { result ≡ taken recs.now }
 {
-    let n = exchange::at_most_sixteen(recs.len());
     let mut out = exchange::blank();
+    let n = recs.len().min(out.len());
     out[..n].copy_from_slice(&recs[..n]);
     out
 }
