@@ -204,20 +204,14 @@ fn put_answers(came: Came, lens: &[u64], ops: &[u64], vals: &[u64], out: &mut [u
     ensures value { result ≡ length (answered came lens.now ops.now vals.now) }
     ensures out_after { out.new ≡ sets out.old 0 (answered came lens.now ops.now vals.now) }
 {
-    let intake = came.intake;
-    let state = intake.state;
-    let read = state.read;
-    let stop = came.stop;
-    let standing = program_intake::standing_of(intake);
-    why_prints::put_end(
-        stop,
-        scenario_read::upto(lens, read.threads),
-        scenario_read::upto(ops, read.count),
-        scenario_read::upto(vals, read.count),
-        standing,
-        out,
-        0,
-    )
+    let read = came.intake.state.read;
+    let standing = program_intake::standing_of(came.intake);
+    let lists = machine::Lists {
+        lens: scenario_read::upto(lens, read.threads),
+        ops: scenario_read::upto(ops, read.count),
+        vals: scenario_read::upto(vals, read.count),
+    };
+    why_prints::put_end(came.stop, lists, standing, out, 0)
 }
 
 fn is_refused(stop: Stop) -> bool {

@@ -15,7 +15,7 @@ use lock_words::names::{FAILS_EXC, FAILS_RC, LOADS_EXC, LOADS_RC, NONE, WAITS_RC
 use machine::{Lists, Lock, Place, ROW_WORDS, Rec, Refusal};
 use why::{Numbers, Reason};
 
-// The records are the first `count` of the array. Nothing is changed.
+// The records are the first `count` of the array. Nothing is changed. An array and its count, since `told_of` compares the count itself, past sixteen too.
 pub fn why(
     lists: Lists,
     lock: Lock,
@@ -82,6 +82,7 @@ fn is_counted(r: &Rec) -> bool
 }
 
 // ---- in numbers
+// 0 where there is none: these are the words of the line that is printed (`why_prints`), and `NumbersTell` of `why` is said of them.
 pub fn numbers_of(told: Result<Reason, Refusal>) -> Numbers
     ensures { result ≡ numbers_of told }
 {

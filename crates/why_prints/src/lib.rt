@@ -2,7 +2,7 @@
 #![tactic(auto)]
 
 ghost use Rattle.std.specs.Prelude.{◌+◌, ◌≤◌, ◌≡◌, length};
-ghost use Rattle.machine.specs.Lists.{lent, lists};
+ghost use Rattle.machine.specs.Lists.{lent};
 ghost use Rattle.scenario_text.specs.Put.{Put, place_after, stored};
 ghost use Rattle.why_prints.specs.Prints.{line_text, lines_text, threads_of, told_at, answers_of, end_text};
 
@@ -16,23 +16,16 @@ use why::Reason;
 const MOST: usize = 1386;
 
 // What is printed where the reader stopped is stored from `at` on, and the place after it is returned: before the end of the scenario nothing is.
-// Where the longest such text has no room, nothing is stored.
-pub fn put_end(
-    stop: Stop,
-    lens: &[u64],
-    ops: &[u64],
-    vals: &[u64],
-    standing: Standing,
-    out: &mut [u8],
-    at: usize,
-) -> usize
-    ensures value { result ≡ place_after 1386 out.old at (end_text stop (lists lens.now ops.now vals.now) standing) }
-    ensures out_after { out.new ≡ stored 1386 out.old at (end_text stop (lists lens.now ops.now vals.now) standing) }
+// Where the longest such text has no room, nothing is stored. A list and a place in it, as all text is stored: the programs use no heap for it.
+pub fn put_end(stop: Stop, lists: Lists, standing: Standing, out: &mut [u8], at: usize) -> usize
+    ensures value { result ≡ place_after 1386 out.old at (end_text stop (lent lists.entry) standing) }
+    ensures out_after { out.new ≡ stored 1386 out.old at (end_text stop (lent lists.entry) standing) }
 {
     if scenario_text::has_room(out.len(), at, MOST) {
-        return write_end(stop, Lists { lens, ops, vals }, standing, out, at);
+        write_end(stop, lists, standing, out, at)
+    } else {
+        at
     }
-    at
 }
 
 fn write_end(stop: Stop, lists: Lists, standing: Standing, out: &mut [u8], at: usize) -> usize
@@ -40,8 +33,7 @@ fn write_end(stop: Stop, lists: Lists, standing: Standing, out: &mut [u8], at: u
     ensures { Put out.old at (end_text stop (lent lists.entry) standing) 1386 result out.new }
 {
     match stop {
-        Stop::Wants => at,
-        Stop::Full => at,
+        Stop::Wants | Stop::Full => at,
         Stop::Refused(number, line) => scenario_text::put_refusal(out, at, number, line),
         Stop::Over => write_answers(lists, standing, out, at),
     }
