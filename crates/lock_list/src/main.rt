@@ -240,8 +240,8 @@ fn ordered(line: Line, given: Given, out: &mut [u64]) -> Told {
     }
 }
 
-// Of the thread that stands in the schedule's place, with the records by value: covered code cannot lend a list of them. The reason's number stands
-// where a run has n, and the record's where it has its rows with answer 0.
+// Of the thread that stands in the schedule's place. The reason's number stands where a run has n, and the record's where it has its rows with
+// answer 0.
 fn asked(line: Line, given: Given) -> Told {
     let lists = line.scripts();
     let Given {

@@ -6,6 +6,7 @@ ghost use Rattle.std.specs.Prelude.{◌≤◌, ◌≡◌, length};
 ghost use Rattle.std.proofs.lemmas.List.Edits.{sets};
 ghost use Rattle.program_why.specs.Answered.{answered};
 
+use machine::Lists;
 use program_intake::{Came, Intake, Room};
 use program_out::{Lost, Outputs};
 use scenario_read::Stop;
@@ -98,13 +99,10 @@ fn put_answers(came: Came, lens: &[u64], ops: &[u64], vals: &[u64], out: &mut [u
 {
     let read = came.intake.state.read;
     let standing = program_intake::standing_of(came.intake);
-    why_prints::put_end(
-        came.stop,
-        scenario_read::upto(lens, read.threads),
-        scenario_read::upto(ops, read.count),
-        scenario_read::upto(vals, read.count),
-        standing,
-        out,
-        0,
-    )
+    let lists = Lists {
+        lens: scenario_read::upto(lens, read.threads),
+        ops: scenario_read::upto(ops, read.count),
+        vals: scenario_read::upto(vals, read.count),
+    };
+    why_prints::put_end(came.stop, lists, standing, out, 0)
 }

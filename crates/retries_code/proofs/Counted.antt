@@ -1,10 +1,12 @@
 -- One row more, and the loop over rows. Assumes nothing.
-use Rattle.std.proofs.Common.{◌≡◌, ℕ, zero, suc, ◌+◌, ◌*◌, ◌%◌, ◌^◌, ◌<◌, ◌≤◌, Bool, true, false, cond, ◌&&◌, ltb, List, [], ◌∷◌, length, get_or, set, refl, ap, ◌∙◌, arith}
+use Rattle.std.proofs.Common.{◌≡◌, ℕ, zero, suc, ◌+◌, ◌/◌, ◌%◌, ◌^◌, ◌<◌, ◌≤◌, Bool, true, false, cond, ◌&&◌, ltb, List, [], ◌∷◌, length, get_or, set, take, drop, map, refl, sym, ap, ◌∙◌, add-one, drop-cons, arith}
+use lib.ListN.{drop_of_length-le}
+use lib.Seq.{get_or-take}
+use Rattle.std.specs.Simd.{first_chunks}
 use package.borrow.Author.Tests.{ne_eqb, eq-eqb, ltb-true, ltb-false}
 use Rattle.machine.specs.Names.{row_words}
-use Rattle.retries.specs.Rows.{counted, row_at}
+use Rattle.retries.specs.Rows.{counted, row_in, rows_in, rows_of_words}
 use Rattle.machine.specs.declared.Row.{Row}
-use Rattle.retries.proofs.Rows.{rows_from, next_row, no_rows}
 use Rattle.retries.specs.Retries.{by}
 use Rattle.retries.specs.Counts.{up_by, with_rows}
 use Rattle.retries.proofs.Counts.{cut_anywhere}
@@ -58,14 +60,40 @@ unfolding with_rows up_by counted
 none_more test t [] = refl
 none_more test t (c ∷ cs) = ap (λ (more : List ℕ). c ∷ more) (none_more test (t + 1) cs)
 
-module _ (test : Row → Bool) (trace : List ℕ) (n k : ℕ) (cs : List ℕ) where
-  -- one row of those that are left
-  pub row_more : k < n → with_rows test 0 cs (rows_from trace n k) ≡ with_rows test 0 (with_row test (row_at trace (row_words * k)) cs) (rows_from trace n (k + 1))
-  row_more h =
-      let r = row_at trace (row_words * k) in
-      ap (with_rows test 0 cs) (next_row trace n k h)
-      ∙ cut_anywhere test 0 cs (r ∷ []) (rows_from trace n (k + 1))
-      ∙ ap (λ (d : List ℕ). with_rows test 0 d (rows_from trace n (k + 1))) (one_row test r cs)
+-- the words of a row are the first six
+row_first : (trace : List ℕ) → row_in (take row_words trace) ≡ row_in trace
+row_first trace =
+    λ i. record {
+      thread = get_or-take row_words trace 0 0 (omega arith) i;
+      access = get_or-take row_words trace 1 0 (omega arith) i;
+      answer = get_or-take row_words trace 2 0 (omega arith) i;
+      got = get_or-take row_words trace 3 0 (omega arith) i;
+      exc = get_or-take row_words trace 4 0 (omega arith) i;
+      rc = get_or-take row_words trace 5 0 (omega arith) i;
+    }
 
-  pub row_last : n ≤ k → with_rows test 0 cs (rows_from trace n k) ≡ cs
-  row_last h = ap (with_rows test 0 cs) (no_rows trace n k h) ∙ none_more test 0 cs
+-- a list of words cut into rows
+rows_cut : (n : ℕ) (trace : List ℕ) → map row_in (first_chunks row_words n trace) ≡ rows_in n trace
+unfolding rows_in
+rows_cut zero trace = refl
+rows_cut (suc n) trace = λ i. row_first trace i ∷ rows_cut n (drop row_words trace) i
+
+module _ (test : Row → Bool) (rows : List (List ℕ)) (k : ℕ) (cs : List ℕ) where
+  -- one row of those that are left
+  pub row_more : k < length rows → with_rows test 0 cs (map row_in (drop k rows)) ≡ with_rows test 0 (with_row test (row_in (get_or rows k [])) cs) (map row_in (drop (k + 1) rows))
+  row_more lt =
+      let row = row_in (get_or rows k []) in
+      let left = map row_in (drop (k + 1) rows) in
+      let cut : drop k rows ≡ get_or rows k [] ∷ drop (k + 1) rows = rw (add-one, drop-cons rows k [] lt) in
+      ap (λ (l : List (List ℕ)). with_rows test 0 cs (map row_in l)) cut
+      ∙ cut_anywhere test 0 cs (row ∷ []) left
+      ∙ ap (λ (d : List ℕ). with_rows test 0 d left) (one_row test row cs)
+
+  -- and none is left: the rows are those of the trace
+  pub row_last : (trace before : List ℕ) → rows ≡ first_chunks row_words (length trace / row_words) trace
+      → with_rows test 0 before (map row_in rows) ≡ with_rows test 0 cs (map row_in (drop k rows)) → length rows ≤ k
+      → cs ≡ with_rows test 0 before (rows_of_words trace)
+  row_last trace before cut counted over =
+      let none : with_rows test 0 cs (map row_in (drop k rows)) ≡ cs = rw (drop_of_length-le rows over) (none_more test 0 cs) in
+      let all : map row_in rows ≡ rows_of_words trace = ap (map row_in) cut ∙ rows_cut (length trace / row_words) trace in
+      sym (ap (with_rows test 0 before) (sym all) ∙ counted ∙ none)

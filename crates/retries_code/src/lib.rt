@@ -1,9 +1,8 @@
 // The rows of a trace counted by thread: how often its exchange on the count failed, and how often it changed the count.
 #![tactic(auto)]
 
-ghost use Rattle.std.specs.Prelude.{◌≡◌, ◌+◌, ◌*◌, ◌≤◌, ◌||◌, length, ◌==◌};
-ghost use Rattle.machine.specs.Names.{gives_back, releases_rc};
-ghost use Rattle.retries.specs.Rows.{row_at, rows_of_words};
+ghost use Rattle.std.specs.Prelude.{◌≡◌, true};
+ghost use Rattle.retries.specs.Rows.{row_in, rows_of_words};
 ghost use Rattle.retries.specs.Retries.{lost, changes};
 ghost use Rattle.retries.specs.Counts.{with_rows};
 ghost use Rattle.retries_code.specs.Code.{one_more, is_change, with_row};
@@ -17,44 +16,37 @@ pub fn count_rows(trace: &[u64], failed: &mut [u64], changed: &mut [u64])
     ensures failed_after { failed.new ≡ with_rows lost 0 failed.old (rows_of_words trace.now) }
     ensures changed_after { changed.new ≡ with_rows changes 0 changed.old (rows_of_words trace.now) }
 {
-    let n = trace.len() / ROW_WORDS;
-    let mut k = 0;
-    while k < n {
-        count_row(trace, ROW_WORDS * k, failed, changed);
-        k += 1;
+    let (rows, _) = trace.as_chunks::<ROW_WORDS>();
+    for row in rows {
+        count_row(row, failed, changed);
     }
 }
 
-// The row whose words start at p.
-fn count_row(trace: &[u64], p: usize, failed: &mut [u64], changed: &mut [u64])
-    requires { p + 6 ≤ length trace.now }
-    ensures failed_after { failed.new ≡ with_row lost (row_at trace.now p) failed.old }
-    ensures changed_after { changed.new ≡ with_row changes (row_at trace.now p) changed.old }
+fn count_row(row: &[u64; ROW_WORDS], failed: &mut [u64], changed: &mut [u64])
+    ensures failed_after { failed.new ≡ with_row lost (row_in row.now) failed.old }
+    ensures changed_after { changed.new ≡ with_row changes (row_in row.now) changed.old }
 {
-    let thread = trace[p];
-    let access = trace[p + 1];
-    add_if(access == FAILS_RC, thread, failed);
-    add_if(is_change(access), thread, changed);
+    let [thread, access, ..] = *row;
+    if access == FAILS_RC {
+        add_one(thread, failed);
+    }
+    if is_change(access) {
+        add_one(thread, changed);
+    }
 }
 
 fn is_change(access: u64) -> bool
     ensures { result ≡ is_change access }
 {
-    access == EXCHANGES_RC || is_one_less(access)
+    matches!(access, EXCHANGES_RC | GIVES_BACK | RELEASES_RC)
 }
 
-fn is_one_less(access: u64) -> bool
-    ensures { result ≡ (access == gives_back || access == releases_rc) }
+// One more for the thread, where the list has a number for it. A number of 64 bits goes on from 0.
+fn add_one(thread: u64, counts: &mut [u64])
+    ensures { counts.new ≡ one_more true thread counts.old }
 {
-    access == GIVES_BACK || access == RELEASES_RC
-}
-
-// One more for the thread, where it is asked and the list has a number for it. A number of 64 bits goes on from 0.
-fn add_if(asked: bool, thread: u64, counts: &mut [u64])
-    ensures { counts.new ≡ one_more asked thread counts.old }
-{
-    if asked && thread < counts.len() as u64 {
-        let i = thread as usize;
-        counts[i] = std::num::wrapping_add_u64(counts[i], 1);
+    let i = thread as usize;
+    if i < counts.len() {
+        counts[i] = counts[i].wrapping_add(1);
     }
 }

@@ -24,8 +24,7 @@ use Rattle.why.specs.Told.{told_by}
 use Rattle.why.specs.Reasons.{Failed, Because, AtWhy, as_run, next_step, number_of, Answers}
 use Rattle.why.specs.declared.Reason.{Reason}
 use Rattle.why.specs.declared.Reason.TheVariants.{NotWaiting}
-use Rattle.why.specs.declared.Told.{Told}
-use Rattle.why.specs.declared.Told.TheVariants.{Refused, Given}
+use Rattle.std.specs.Prelude.{Err, Ok, Result}
 use Rattle.why.proofs.Reasons.{why_exact, waits_exactly}
 
 -- ---- a run's numbers are below an entry's
@@ -105,30 +104,30 @@ module _ (Run Step : ℕ → Type 0) (a b c : ℕ) (low : (k : ℕ) → Run k �
       go false e = absurd (eqb-false a 0 e (sym (first (eqb-false a 0 e)) ∙ z))
 
 -- ---- the answer, taken apart
-abbrev is_given : Told → Bool
-is_given (Refused x) = false
-is_given (Given y) = true
+abbrev is_given : Result Reason Refusal → Bool
+is_given (Err x) = false
+is_given (Ok y) = true
 
-abbrev refusal_in : Refusal → Told → Refusal
-refusal_in d (Refused x) = x
-refusal_in d (Given y) = d
+abbrev refusal_in : Refusal → Result Reason Refusal → Refusal
+refusal_in d (Err x) = x
+refusal_in d (Ok y) = d
 
-abbrev reason_in : Reason → Told → Reason
-reason_in d (Refused x) = d
-reason_in d (Given y) = y
+abbrev reason_in : Reason → Result Reason Refusal → Reason
+reason_in d (Err x) = d
+reason_in d (Ok y) = y
 
 module _ (s : Lent) (k : ℕ) (y : Reason) where
-  number_so : (t : Bool) → eqb k 0 ≡ t → number_of (cond t (Given y) (Refused (beside s k))) ≡ k
+  number_so : (t : Bool) → eqb k 0 ≡ t → number_of (cond t (Ok y) (Err (beside s k))) ≡ k
   number_so true e = sym (eqb-true k 0 e)
   number_so false e = (beside_others s k).0
 
-  refusal_so : (t : Bool) (x : Refusal) → cond t (Given y) (Refused (beside s k)) ≡ Refused x → x ≡ beside s x.number
+  refusal_so : (t : Bool) (x : Refusal) → cond t (Ok y) (Err (beside s k)) ≡ Err x → x ≡ beside s x.number
   refusal_so true x e = absurd (true≢false (ap is_given e))
   refusal_so false x e =
       let same : beside s k ≡ x = ap (refusal_in x) e in
       sym same ∙ ap (beside s) (sym (beside_others s k).0 ∙ ap (λ (x : Refusal). x.number) same)
 
-  reason_so : (t : Bool) → eqb k 0 ≡ t → (z : Reason) → cond t (Given y) (Refused (beside s k)) ≡ Given z → (k ≡ 0) × (y ≡ z)
+  reason_so : (t : Bool) → eqb k 0 ≡ t → (z : Reason) → cond t (Ok y) (Err (beside s k)) ≡ Ok z → (k ≡ 0) × (y ≡ z)
   reason_so true q z e = (eqb-true k 0 q, ap (reason_in z) e)
   reason_so false q z e = absurd (false≢true (ap is_given e))
 
@@ -166,18 +165,18 @@ module _ (s : Lent) (L : Lock) (l : List Rec) (i : ℕ) (Run : ℕ → Type 0) (
       no_refusal : Nothing (AtWhy Run Step) → c ≡ 0
       no_refusal = exact_c.1.1
 
-      given_of : c ≡ 0 → cond (eqb c 0) (Given (why S L l i)) (Refused (beside s c)) ≡ Given (why S L l i)
+      given_of : c ≡ 0 → cond (eqb c 0) (Ok (why S L l i)) (Err (beside s c)) ≡ Ok (why S L l i)
       given_of z = rw (eq-eqb c 0 z) refl
 
-      given_holds : (y : Reason) → cond (eqb c 0) (Given (why S L l i)) (Refused (beside s c)) ≡ Given y → Nothing (AtWhy Run Step) × Because S L l i y
+      given_holds : (y : Reason) → cond (eqb c 0) (Ok (why S L l i)) (Err (beside s c)) ≡ Ok y → Nothing (AtWhy Run Step) × Because S L l i y
       given_holds y e =
           let (z, same) = reason_so s c (why S L l i) (eqb c 0) refl y e in
           (exact_c.1.0 z, (why_exact S L l i (is_sound z) y).0 same)
 
-      holds_given : (y : Reason) → Nothing (AtWhy Run Step) × Because S L l i y → cond (eqb c 0) (Given (why S L l i)) (Refused (beside s c)) ≡ Given y
+      holds_given : (y : Reason) → Nothing (AtWhy Run Step) × Because S L l i y → cond (eqb c 0) (Ok (why S L l i)) (Err (beside s c)) ≡ Ok y
       holds_given y (none, true_so) =
           let z = no_refusal none in
-          given_of z ∙ ap Given ((why_exact S L l i (is_sound z) y).1 true_so)
+          given_of z ∙ ap Ok ((why_exact S L l i (is_sound z) y).1 true_so)
 
 -- ---- what the next row shows, where c is the next step's refusal
 module _ (s : Lent) (L : Lock) (l : List Rec) (i c : ℕ) (is : c ≡ entry_refusal (scripts_of s) L l i) where
@@ -191,7 +190,7 @@ module _ (s : Lent) (L : Lock) (l : List Rec) (i c : ℕ) (is : c ≡ entry_refu
   pub answer_shown : (step (scripts_of s) L l i).row.answer ≡ number_of (told_by s c y₀)
   answer_shown = (row_says (scripts_of s) L l i).0 ∙ sym is ∙ sym number_told
 
-  pub failure_shown : (y : Reason) → told_by s c y₀ ≡ Given y → (y ≢ NotWaiting) ↔ Failed L.top.0 (step (scripts_of s) L l i).row
+  pub failure_shown : (y : Reason) → told_by s c y₀ ≡ Ok y → (y ≢ NotWaiting) ↔ Failed L.top.0 (step (scripts_of s) L l i).row
   unfolding told_by
   failure_shown y e =
       let (none, same) = reason_so s c y₀ (eqb c 0) refl y e in

@@ -25,7 +25,7 @@ use Rattle.why.specs.Why.{has_flag, is_counted, blocker_of, why}
 use Rattle.why.specs.Reasons.{Names, holder, reader, SeesFull, LosesCount, MeetsFlag, MeetsReaders, Failed, as_sees_full, as_loses_count, as_meets_flag, as_meets_readers, Waits, HasFlag, Counted, NoneBelow, Because, not_waiting, count_full, count_changed, flag_held, flag_dropped, counted_by, counted_dropped, WaitsExactly, WhyExact, OneReason, OfFlag, OfReaders, FitsRow, ForAnother, NotFinished, LowestCounted}
 use Rattle.why.specs.declared.Reason.{Reason}
 use Rattle.why.specs.declared.Reason.TheVariants.{NotWaiting, CountFull, CountChanged, Flag, Readers}
-use Rattle.why.specs.declared.Blocker.TheVariants.{Record}
+use Rattle.std.specs.Prelude.{Some}
 use Rattle.why.proofs.Means.{says_has_flag, says_counted, reason_by, at_full, at_loses, at_flag, at_readers}
 use Rattle.why.proofs.Blockers.{blocker_by, lowest_is, none_is, same_holder, dropped_write, dropped_read}
 
@@ -173,9 +173,9 @@ why_exact S L l i h y = (λ e. rw e at (because S L l i h), only S L l i h y)
 
 -- the reader that is named
 pub lowest_counted : LowestCounted
-lowest_counted S L l i w h e = go ((why_exact S L l i h (Readers (Record w))).0 e)
+lowest_counted S L l i w h e = go ((why_exact S L l i h (Readers (Some w))).0 e)
   where
-    go : Because S L l i (Readers (Record w)) → (w < length l) × Counted (here l w) × NoneBelow Counted l w
+    go : Because S L l i (Readers (Some w)) → (w < length l) × Counted (here l w) × NoneBelow Counted l w
     go (counted_by v m some lt p below) = (lt, p, below)
 
 pub one_reason : OneReason

@@ -36,7 +36,7 @@ use Rattle.why.specs.Reasons.{Because, not_waiting, count_full, count_changed, f
 use Rattle.why.specs.WayOn.{WayOut, all_out, one_out, WayOn, ReadersComeOut, NamedGoesOn, FullGoesDown, ChangedLooksAgain, NoneForDropped}
 use Rattle.why.specs.declared.Reason.{Reason}
 use Rattle.why.specs.declared.Reason.TheVariants.{NotWaiting, CountFull, CountChanged, Flag, Readers}
-use Rattle.why.specs.declared.Blocker.TheVariants.{Record, Dropped}
+use Rattle.std.specs.Prelude.{None, Some}
 use Rattle.why.proofs.Where.{entered, at_wait}
 use Rattle.why.proofs.Means.{says_has_flag, says_counted}
 use Rattle.why.proofs.Blockers.{count_weight, blocker_by, same_holder, dropped_read, flag_up}
@@ -292,7 +292,7 @@ module _ (S : Scripts) (w : ℕ) where
           let (v, low, p, below) = some_counted S L l h t nonzero in
           let c = reader_came S L l v h t low p in
           let o = way_out S v L l h t low c in
-          let named = (why_exact S L l w h (Readers (Record v))).1 (counted_by v (meets L l h t lt at some) nonzero low p below) in
+          let named = (why_exact S L l w h (Readers (Some v))).1 (counted_by v (meets L l h t lt at some) nonzero low p below) in
           let apart : w ≢ v = λ e. for_another S L l w v h (rw named reader) (sym e) in
           let stays_there : (here c.recs w).place ≡ WriteWait = ap (λ (r : Rec). r.place) (o.others w apart) ∙ at in
           let in_list : w < length c.recs = rw (size S v L l h t low c) lt in
@@ -338,10 +338,10 @@ changed_looks_again S L l i h e =
         is_changed (Readers b) = false
 
 pub none_for_dropped : NoneForDropped
-none_for_dropped S L l i h t = (λ e. of_flag ((why_exact S L l i h (Flag Dropped)).0 e), λ e. of_readers ((why_exact S L l i h (Readers Dropped)).0 e))
+none_for_dropped S L l i h t = (λ e. of_flag ((why_exact S L l i h (Flag None)).0 e), λ e. of_readers ((why_exact S L l i h (Readers None)).0 e))
   where
-    of_flag : Because S L l i (Flag Dropped) → ⊥
+    of_flag : Because S L l i (Flag None) → ⊥
     of_flag (flag_dropped m on free some) = omega (arith, t.clean)
 
-    of_readers : Because S L l i (Readers Dropped) → ⊥
+    of_readers : Because S L l i (Readers None) → ⊥
     of_readers (counted_dropped m some free all) = some (omega (arith, t.clean))

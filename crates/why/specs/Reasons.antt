@@ -1,6 +1,6 @@
 -- What a reason means, in words over the next row and the state; and the statements: the answer is the one reason there is, and 'not
 -- waiting' exactly where the next step is no failed look or exchange.
-use Rattle.std.specs.Prelude.{ℕ, ◌<◌, ◌≡◌, ◌≢◌, ◌↔◌, ◌⊎◌, true, false, List, length}
+use Rattle.std.specs.Prelude.{ℕ, ◌<◌, ◌≡◌, ◌≢◌, ◌↔◌, ◌⊎◌, true, false, List, length, Err, None, Ok, Option, Result, Some}
 use Rattle.machine.specs.Names.{acquire_read, acquire_write, into_inner, loads_rc, loads_exc, waits_rc, fails_rc, fails_exc}
 use Rattle.machine.specs.Refusals.{Nothing, Exact}
 use Rattle.machine.specs.Lists.{Lent, scripts_of, beside}
@@ -16,10 +16,6 @@ use Rattle.why.specs.Why.{why, reason_no, who_no}
 use Rattle.why.specs.Told.{numbers_of}
 use Rattle.why.specs.declared.Reason.{Reason}
 use Rattle.why.specs.declared.Reason.TheVariants.{NotWaiting, CountFull, CountChanged, Flag, Readers}
-use Rattle.why.specs.declared.Blocker.{Blocker}
-use Rattle.why.specs.declared.Blocker.TheVariants.{Record, Dropped}
-use Rattle.why.specs.declared.Told.{Told}
-use Rattle.why.specs.declared.Told.TheVariants.{Refused, Given}
 
 -- ---- waiting: the next row is a failed look or exchange
 -- the row is of this access, and what it got is so
@@ -87,11 +83,11 @@ pub data Because (S : Scripts) (L : Lock) (l : List Rec) (i : ℕ) : Reason → 
   not_waiting : (Waits S L l i → ⊥) → Because S L l i NotWaiting
   count_full : SeesFull L.top.0 (step S L l i).row → L.rc.0 ≡ L.top.0 → Because S L l i CountFull
   count_changed : LosesCount (step S L l i).row → L.rc.0 ≢ (here l i).seen.0 → Because S L l i CountChanged
-  flag_held : (w : ℕ) → MeetsFlag (step S L l i).row → L.exc ≡ true → w < length l → HasFlag (here l w) → Because S L l i (Flag (Record w))
-  flag_dropped : MeetsFlag (step S L l i).row → L.exc ≡ true → NoRecord HasFlag l → L.writes.0 ≡ 1 → Because S L l i (Flag Dropped)
+  flag_held : (w : ℕ) → MeetsFlag (step S L l i).row → L.exc ≡ true → w < length l → HasFlag (here l w) → Because S L l i (Flag (Some w))
+  flag_dropped : MeetsFlag (step S L l i).row → L.exc ≡ true → NoRecord HasFlag l → L.writes.0 ≡ 1 → Because S L l i (Flag None)
   counted_by : (w : ℕ) → MeetsReaders (step S L l i).row → L.rc.0 ≢ 0 → w < length l → Counted (here l w) → NoneBelow Counted l w
-      → Because S L l i (Readers (Record w))
-  counted_dropped : MeetsReaders (step S L l i).row → L.rc.0 ≢ 0 → NoRecord Counted l → L.rc.0 ≡ L.reads.0 → Because S L l i (Readers Dropped)
+      → Because S L l i (Readers (Some w))
+  counted_dropped : MeetsReaders (step S L l i).row → L.rc.0 ≢ 0 → NoRecord Counted l → L.rc.0 ≡ L.reads.0 → Because S L l i (Readers None)
 
 -- ---- the statements
 -- 'not waiting' exactly where the thread is not, of any state
@@ -115,10 +111,10 @@ OneReason =
 
 -- the reason is the flag; it is counted readers
 pub data OfFlag : Reason → Type 0 where
-  flag : (b : Blocker) → OfFlag (Flag b)
+  flag : (b : Option ℕ) → OfFlag (Flag b)
 
 pub data OfReaders : Reason → Type 0 where
-  readers : (b : Blocker) → OfReaders (Readers b)
+  readers : (b : Option ℕ) → OfReaders (Readers b)
 
 -- each reason is given exactly for its rows, of any state
 abbrev pub FitsRow : Type 0
@@ -134,13 +130,13 @@ FitsRow =
 -- the reader that is named is counted, and none below it is
 abbrev pub LowestCounted : Type 0
 LowestCounted =
-    (S : Scripts) (L : Lock) (l : List Rec) (i w : ℕ) → Sound S L l → why S L l i ≡ Readers (Record w)
+    (S : Scripts) (L : Lock) (l : List Rec) (i w : ℕ) → Sound S L l → why S L l i ≡ Readers (Some w)
     → (w < length l) × Counted (here l w) × NoneBelow Counted l w
 
 -- the record w is named in the answer
 pub data Names : Reason → ℕ → Type 0 where
-  holder : {w : ℕ} → Names (Flag (Record w)) w
-  reader : {w : ℕ} → Names (Readers (Record w)) w
+  holder : {w : ℕ} → Names (Flag (Some w)) w
+  reader : {w : ℕ} → Names (Readers (Some w)) w
 
 -- nobody waits for itself
 abbrev pub ForAnother : Type 0
@@ -177,13 +173,13 @@ pub data AtWhy (Run Step : ℕ → Type 0) : ℕ → Type 0 where
   next_step : {k : ℕ} → Step k → AtWhy Run Step k
 
 -- the refusal's number, 0 where a reason is given
-abbrev pub number_of : Told → ℕ
+abbrev pub number_of : Result Reason Refusal → ℕ
 number_of r = (numbers_of r).answer
 
 -- the refusal is exact, with what belongs beside it; and an answer is given exactly where nothing is refused and it holds, in a sound state
-pub record Answers (s : Lent) (Run : ℕ → Type 0) (L : Lock) (l : List Rec) (i : ℕ) (r : Told) : Type 0 where
+pub record Answers (s : Lent) (Run : ℕ → Type 0) (L : Lock) (l : List Rec) (i : ℕ) (r : Result Reason Refusal) : Type 0 where
   pub exact : Exact (AtWhy Run (AtEntry (scripts_of s) L l i)) (number_of r)
-  pub next_to : (x : Refusal) → r ≡ Refused x → x ≡ beside s x.number
-  pub sound : (y : Reason) → r ≡ Given y → Sound (scripts_of s) L l
-  pub given : (y : Reason) → (r ≡ Given y) ↔ (Nothing (AtWhy Run (AtEntry (scripts_of s) L l i)) × Because (scripts_of s) L l i y)
-  pub told : Nothing (AtWhy Run (AtEntry (scripts_of s) L l i)) → (y : Reason) × (r ≡ Given y)
+  pub next_to : (x : Refusal) → r ≡ Err x → x ≡ beside s x.number
+  pub sound : (y : Reason) → r ≡ Ok y → Sound (scripts_of s) L l
+  pub given : (y : Reason) → (r ≡ Ok y) ↔ (Nothing (AtWhy Run (AtEntry (scripts_of s) L l i)) × Because (scripts_of s) L l i y)
+  pub told : Nothing (AtWhy Run (AtEntry (scripts_of s) L l i)) → (y : Reason) × (r ≡ Ok y)

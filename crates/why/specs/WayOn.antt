@@ -1,7 +1,7 @@
 -- Whoever stands in the way has a way on, in a tidy state: it comes to Idle by entries of its own thread, as a turn of the drain order has them, after
 -- the readers that it waits for, if it waits for any, have come to Idle in the same way. A reader that sees the flag and the writer that waits for the
 -- reader name each other; but the reader needs nothing of the writer, so nobody waits in a circle for ever.
-use Rattle.std.specs.Prelude.{ℕ, ◌+◌, ◌<◌, ◌≡◌, ◌≢◌, false, List, length}
+use Rattle.std.specs.Prelude.{ℕ, ◌+◌, ◌<◌, ◌≡◌, ◌≢◌, false, List, length, None, Some}
 use Rattle.machine.specs.Step.{Scripts, here, step}
 use Rattle.machine.specs.Sound.{Sound}
 use Rattle.machine.specs.Run.{run}
@@ -14,7 +14,6 @@ use Rattle.machine.specs.declared.Place.TheVariants.{Idle}
 use Rattle.why.specs.Why.{why}
 use Rattle.why.specs.Reasons.{HasFlag, Counted, Names}
 use Rattle.why.specs.declared.Reason.TheVariants.{CountFull, CountChanged, Flag, Readers}
-use Rattle.why.specs.declared.Blocker.TheVariants.{Record, Dropped}
 
 -- thread w alone steps until it stands at Idle, and none of its entries is refused; no other record moves, and it is in nobody's way any more: it has put
 -- the flag down, or has taken itself off the count
@@ -32,7 +31,7 @@ pub record WayOut (S : Scripts) (L : Lock) (l : List Rec) (w : ℕ) : Type 0 whe
 -- the readers that are named to thread w come out, one after the other, each as it is named
 pub data ReadersLeave (S : Scripts) (w : ℕ) : Lock → List Rec → Lock → List Rec → Type 0 where
   all_out : {L : Lock} {l : List Rec} → ReadersLeave S w L l L l
-  one_out : {L M : Lock} {l m : List Rec} (v : ℕ) → why S L l w ≡ Readers (Record v) → (o : WayOut S L l v)
+  one_out : {L M : Lock} {l m : List Rec} (v : ℕ) → why S L l w ≡ Readers (Some v) → (o : WayOut S L l v)
       → ReadersLeave S w o.lock o.recs M m → ReadersLeave S w L l M m
 
 -- then it comes out itself. Who waits for no reader needs nobody
@@ -65,4 +64,4 @@ ChangedLooksAgain =
 -- and nobody waits for a dropped handle, behind which there is no way on
 abbrev pub NoneForDropped : Type 0
 NoneForDropped =
-    (S : Scripts) (L : Lock) (l : List Rec) (i : ℕ) → Sound S L l → Tidy S L l → (why S L l i ≢ Flag Dropped) × (why S L l i ≢ Readers Dropped)
+    (S : Scripts) (L : Lock) (l : List Rec) (i : ℕ) → Sound S L l → Tidy S L l → (why S L l i ≢ Flag None) × (why S L l i ≢ Readers None)

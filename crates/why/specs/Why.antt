@@ -1,5 +1,5 @@
 -- Why a thread is waiting: which next rows mean that it is, and the reason, out of that row and the records. And each answer's number.
-use Rattle.std.specs.Prelude.{ℕ, Bool, ◌||◌, ◌&&◌, not, cond, List, eqb, ltb, length}
+use Rattle.std.specs.Prelude.{ℕ, Bool, ◌||◌, ◌&&◌, not, cond, List, eqb, ltb, length, None, Option, Some}
 use Rattle.machine.specs.Names.{loads_rc, loads_exc, waits_rc, fails_rc, fails_exc}
 use Rattle.machine.specs.Words.{is}
 use Rattle.machine.specs.Lists.{find}
@@ -9,8 +9,6 @@ use Rattle.machine.specs.declared.Rec.{Rec}
 use Rattle.machine.specs.declared.Place.TheVariants.{ReadCheck, ReadBack, Reading, WriteWait, WriteTake, Writing, WritePut}
 use Rattle.why.specs.declared.Reason.{Reason}
 use Rattle.why.specs.declared.Reason.TheVariants.{NotWaiting, CountFull, CountChanged, Flag, Readers}
-use Rattle.why.specs.declared.Blocker.{Blocker}
-use Rattle.why.specs.declared.Blocker.TheVariants.{Record, Dropped}
 
 -- ---- the failed looks and exchanges, by access and value got
 -- the count is loaded and is at the top
@@ -42,8 +40,8 @@ is_counted r = is r.place ReadCheck || (is r.place ReadBack || is r.place Readin
 abbrev pub first_of : (Rec → Bool) → List Rec → ℕ
 first_of test l = find (λ k. test (here l k)) 0 (length l)
 
-abbrev pub blocker_of : (Rec → Bool) → List Rec → Blocker
-blocker_of test l = let w = first_of test l in cond (ltb w (length l)) (Record w) Dropped
+abbrev pub blocker_of : (Rec → Bool) → List Rec → Option ℕ
+blocker_of test l = let w = first_of test l in cond (ltb w (length l)) (Some w) None
 
 -- ---- the reason
 unfoldable pub reason_of : ℕ → List Rec → ℕ → ℕ → Reason
@@ -60,13 +58,13 @@ why S L l i = let row = (step S L l i).row in reason_of L.top.0 l row.access row
 
 -- ---- in numbers
 -- one number where a record stands in the way, another where dropped handles do
-abbrev pub by_blocker : Blocker → ℕ → ℕ → ℕ
-by_blocker (Record w) some none = some
-by_blocker Dropped some none = none
+abbrev pub by_blocker : Option ℕ → ℕ → ℕ → ℕ
+by_blocker (Some w) some none = some
+by_blocker None some none = none
 
-abbrev pub record_in : Blocker → ℕ
-record_in (Record w) = w
-record_in Dropped = 0
+abbrev pub record_in : Option ℕ → ℕ
+record_in (Some w) = w
+record_in None = 0
 
 abbrev pub reason_no : Reason → ℕ
 reason_no NotWaiting = 0

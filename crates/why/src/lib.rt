@@ -1,17 +1,9 @@
-// The declared types of the question why a thread waits: who stands in its way, the reason, and what is answered. What each means stands in
-// specs/.
+// The declared types of the question why a thread waits: the reason, with who stands in the way, and what is answered in numbers. What each means
+// stands in specs/.
 #![tactic(auto)]
 
-use machine::Refusal;
-
-// Who stands in the way: a record, by its number; or dropped handles only.
-#[derive(Clone, Copy)]
-pub enum Blocker {
-    Record(u64),
-    Dropped,
-}
-
-// Why a thread is waiting, or that it is not.
+// Why a thread is waiting, or that it is not. Beside the flag and the readers stands who is in the way: a record, by its number, or none, where only
+// dropped handles are.
 #[derive(Clone, Copy)]
 pub enum Reason {
     NotWaiting,
@@ -19,19 +11,13 @@ pub enum Reason {
     // The count is not what the thread saw.
     CountChanged,
     // The flag is up, and who holds it.
-    Flag(Blocker),
+    Flag(Option<u64>),
     // Readers are counted, and the lowest-numbered of them.
-    Readers(Blocker),
+    Readers(Option<u64>),
 }
 
-// What is answered: a refusal of the call or, by its number alone, of the next step; or the reason.
-#[derive(Clone, Copy)]
-pub enum Told {
-    Refused(Refusal),
-    Given(Reason),
-}
-
-// The same in numbers: the refusal's number or 0, the reason's, and that of the record beside it.
+// What is answered, a reason or a refusal of the call or, by its number alone, of the next step, in numbers: the refusal's or 0, the reason's, and
+// that of the record beside it.
 #[derive(Clone, Copy)]
 pub struct Numbers {
     pub answer: u64,

@@ -27,7 +27,7 @@ use Rattle.why.specs.Why.{reason_of}
 use Rattle.why.specs.Told.{told_by, why_refusal}
 use Rattle.why_code.specs.ByValue.{why_refusal_of, told_of}
 use Rattle.why.specs.declared.Reason.{Reason}
-use Rattle.why.specs.declared.Told.TheVariants.{Refused, Given}
+use Rattle.std.specs.Prelude.{Err, Ok}
 use Rattle.why.proofs.Answers.{entry_above}
 
 -- ---- the refusal's number
@@ -67,11 +67,11 @@ module _
   told : r.refusal ≡ beside s (run_refusal_of s count L l)
   told = run_told_by_value s count L recs (i ∷ []) 1 trace r is
 
-  pub run_refused : r.refusal.number ≢ 0 → Refused r.refusal ≡ told_of s count L recs i
+  pub run_refused : r.refusal.number ≢ 0 → Err r.refusal ≡ told_of s count L recs i
   unfolding told_of told_by
   run_refused some =
       let not_none : run_refusal_of s count L l ≢ 0 = λ z. some (ap (λ (x : Refusal). x.number) told ∙ number_beside s _ ∙ z) in
-      rw (run_first s count L l i not_none, ne_eqb _ 0 not_none) (ap Refused told)
+      rw (run_first s count L l i not_none, ne_eqb _ 0 not_none) (ap Err told)
 
   module _ (none : r.refusal.number ≡ 0) where
     no_refusal : run_refusal_of s count L l ≡ 0
@@ -84,7 +84,7 @@ module _
     unfolding words_of
     answer_is = rw row_told (row_says S L l i).0
 
-    pub step_refused : get_or trace' 2 0 ≢ 0 → Refused (record { number = get_or trace' 2 0; thread = 0; place = 0 }) ≡ told_of s count L recs i
+    pub step_refused : get_or trace' 2 0 ≢ 0 → Err (record { number = get_or trace' 2 0; thread = 0; place = 0 }) ≡ told_of s count L recs i
     unfolding told_of told_by
     step_refused some =
         let k = entry_refusal S L l i in
@@ -94,11 +94,11 @@ module _
         let same : ◌≡◌ {A = Refusal} (record { number = k; thread = 0; place = 0 }) (beside s k) =
         λ j. record { number = sym number j; thread = sym (thread (λ e. omega arith) (λ e. omega arith)) j; place = sym (place (λ e. omega arith)) j }
         in
-        rw (answer_is, then_entry s count L l i no_refusal, ne_eqb k 0 not_none) (ap Refused same)
+        rw (answer_is, then_entry s count L l i no_refusal, ne_eqb k 0 not_none) (ap Err same)
 
     pub reason_told : get_or trace' 2 0 ≡ 0 → (y : Reason) → y ≡ reason_of L.top.0 l (get_or trace' 1 0) (get_or trace' 3 0)
-        → Given y ≡ told_of s count L recs i
+        → Ok y ≡ told_of s count L recs i
     unfolding told_of told_by words_of
     reason_told zero y e =
         let accepted : entry_refusal S L l i ≡ 0 = sym answer_is ∙ zero in
-        rw (then_entry s count L l i no_refusal, accepted) (ap Given (rw row_told at e))
+        rw (then_entry s count L l i no_refusal, accepted) (ap Ok (rw row_told at e))

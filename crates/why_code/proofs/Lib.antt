@@ -1,3 +1,3 @@
-pub mod Rows
+mod First
 pub mod Calls
 pub mod Laws

@@ -36,7 +36,9 @@ use Rattle.scenario_read.specs.declared.Stop.{Stop}
 use Rattle.scenario_read.specs.declared.Stop.TheVariants.{Refused, Over}
 use Rattle.scenario_promises.specs.Piped.{left_by_file, standing_in, ComesTo}
 use Rattle.why.specs.Told.{why_refusal, told_lent}
-use Rattle.why.specs.declared.Told.{Told}
+use Rattle.std.specs.Prelude.{Result}
+use Rattle.why.specs.declared.Reason.{Reason}
+use Rattle.machine.specs.declared.Refusal.{Refusal}
 use Rattle.why.proofs.Answers.{number_told}
 use Rattle.why_code.proofs.Calls.{then_entry_of_list}
 use Rattle.why_code.proofs.Laws.{as_lent}
@@ -84,7 +86,7 @@ module _ (file : List ℕ) where
       )
 
 -- ---- the lines
-lines_same : (f g : ℕ → Told) → ((t : ℕ) → f t ≡ g t) → (t c : ℕ) → lines_text f t c ≡ lines_text g t c
+lines_same : (f g : ℕ → Result Reason Refusal) → ((t : ℕ) → f t ≡ g t) → (t c : ℕ) → lines_text f t c ≡ lines_text g t c
 unfolding lines_text
 lines_same f g h t zero = refl
 lines_same f g h t (suc c) = λ i. line_text t (h t i) ++ lines_same f g h (t + 1) c i

@@ -13,12 +13,14 @@ use Rattle.scenario_text.proofs.Stores.{puts, both, put_so}
 use Rattle.scenario_text.proofs.Texts.{four_short}
 use Rattle.scenario_pieces.specs.declared.Standing.{Standing}
 use Rattle.why.specs.Told.{numbers_of}
-use Rattle.why.specs.declared.Told.{Told}
+use Rattle.std.specs.Prelude.{Result}
+use Rattle.why.specs.declared.Reason.{Reason}
+use Rattle.machine.specs.declared.Refusal.{Refusal}
 use Rattle.why.specs.declared.Numbers.{Numbers}
 use Rattle.why_prints.specs.Prints.{why_header, line_text, lines_text, threads_of, told_at, answers_of}
 
 -- one line more
-pub lines_more : (told : ℕ → Told) (t c : ℕ) → lines_text told t (suc c) ≡ lines_text told t c ++ line_text (t + c) (told (t + c))
+pub lines_more : (told : ℕ → Result Reason Refusal) (t c : ℕ) → lines_text told t (suc c) ≡ lines_text told t c ++ line_text (t + c) (told (t + c))
 unfolding lines_text
 lines_more told t zero = let e : t ≡ t + 0 = omega arith in append-nil (line_text t (told t)) ∙ ap (λ (k : ℕ). line_text k (told k)) e
 lines_more told t (suc c) =
@@ -44,7 +46,7 @@ unfolding why_header
 header_short = omega arith
 
 -- a line, where there is room; m are the numbers of what was told
-pub line_put : {o p : List ℕ} {at r : ℕ} (thread : ℕ) (told : Told) (m : Numbers) → m ≡ numbers_of told → at + 85 ≤ length o
+pub line_put : {o p : List ℕ} {at r : ℕ} (thread : ℕ) (told : Result Reason Refusal) (m : Numbers) → m ≡ numbers_of told → at + 85 ≤ length o
     → (r ≡ place_after 85 o at (four_text thread m.answer m.reason m.who)) × (p ≡ stored 85 o at (four_text thread m.answer m.reason m.who))
     → Put o at (line_text thread told) 85 r p
 line_put {o} {p} {at} {r} thread told m is room put =
@@ -52,7 +54,7 @@ line_put {o} {p} {at} {r} thread told m is room put =
     (put_so o p (four_text thread m.answer m.reason m.who) at r 85 room (four_short thread m.answer m.reason m.who) put)
 
 -- ---- the loop: the lines of the first t threads are stored
-module _ (told : ℕ → Told) (o : List ℕ) (at : ℕ) where
+module _ (told : ℕ → Result Reason Refusal) (o : List ℕ) (at : ℕ) where
   abbrev pub Stored : ℕ → ℕ → List ℕ → Type 0
   Stored t p out = Put o at (lines_text told 0 t) (85 * t) p out
 
@@ -60,13 +62,13 @@ module _ (told : ℕ → Told) (o : List ℕ) (at : ℕ) where
   unfolding lines_text
   begins = nothing_put o at 0
 
-  pub goes_on : (t p : ℕ) (out : List ℕ) (x : Told) (r : ℕ) (out' : List ℕ) → Stored t p out → x ≡ told t → Put out p (line_text t x) 85 r out'
+  pub goes_on : (t p : ℕ) (out : List ℕ) (x : Result Reason Refusal) (r : ℕ) (out' : List ℕ) → Stored t p out → x ≡ told t → Put out p (line_text t x) 85 r out'
       → Stored (t + 1) r out'
   goes_on t p out x r out' a is b =
       let e : 85 * (t + 1) ≡ 85 * t + 85 = omega arith in
       let z : 0 + t ≡ t = omega arith in
       let more : lines_text told 0 (suc t) ≡ lines_text told 0 t ++ line_text t (told t) = lines_more told 0 t ∙ ap (λ (k : ℕ). lines_text told 0 t ++ line_text k (told k)) z in
-      let line = subst (λ (y : Told). Put out p (line_text t y) 85 r out') is b in
+      let line = subst (λ (y : Result Reason Refusal). Put out p (line_text t y) 85 r out') is b in
       subst (λ (k : ℕ). Put o at (lines_text told 0 k) (85 * (t + 1)) r out') (sym (add-one t))
       (subst (λ (l : List ℕ). Put o at l (85 * (t + 1)) r out') (sym more) (wider (85 * (t + 1)) (omega (arith, e)) (both a line)))
 

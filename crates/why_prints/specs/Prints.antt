@@ -1,5 +1,5 @@
 -- The answers as text: the header, and a line for each thread. And what is printed of a scenario file.
-use Rattle.std.specs.Prelude.{ℕ, zero, suc, ◌+◌, ◌%◌, min, cond, List, [], ◌++◌, eqb, length}
+use Rattle.std.specs.Prelude.{ℕ, zero, suc, ◌+◌, ◌%◌, min, cond, List, [], ◌++◌, eqb, length, Result}
 use Rattle.machine.specs.Names.{most_threads}
 use Rattle.machine.specs.Lists.{Lent}
 use Rattle.scenario_lines.specs.Ascii.{bytes}
@@ -12,7 +12,8 @@ use Rattle.scenario_read.specs.declared.Stop.{Stop}
 use Rattle.scenario_read.specs.declared.Stop.TheVariants.{Wants, Full, Refused, Over}
 use Rattle.scenario_promises.specs.Piped.{left_by_file}
 use Rattle.why.specs.Told.{told_lent, numbers_of}
-use Rattle.why.specs.declared.Told.{Told}
+use Rattle.why.specs.declared.Reason.{Reason}
+use Rattle.machine.specs.declared.Refusal.{Refusal}
 use Rattle.why_code.specs.ByValue.{told_of}
 
 unfoldable pub why_header : List ℕ
@@ -23,11 +24,11 @@ abbrev pub most_bytes : ℕ
 most_bytes = 1386
 
 -- of thread t
-abbrev pub line_text : ℕ → Told → List ℕ
+abbrev pub line_text : ℕ → Result Reason Refusal → List ℕ
 line_text t told = let n = numbers_of told in four_text t n.answer n.reason n.who
 
 -- c lines, from thread t on
-unfoldable pub lines_text : (ℕ → Told) → ℕ → ℕ → List ℕ
+unfoldable pub lines_text : (ℕ → Result Reason Refusal) → ℕ → ℕ → List ℕ
 lines_text told t zero = []
 lines_text told t (suc c) = line_text t (told t) ++ lines_text told (t + 1) c
 
@@ -47,7 +48,7 @@ why_printed file =
 abbrev pub threads_of : Lent → ℕ
 threads_of s = min (length s.lens) most_threads
 
-abbrev pub told_at : Lent → Standing → ℕ → Told
+abbrev pub told_at : Lent → Standing → ℕ → Result Reason Refusal
 told_at s p t = told_of s (length s.lens) p.lock p.recs t
 
 abbrev pub answers_of : Lent → Standing → List ℕ

@@ -35,8 +35,7 @@ use Rattle.why.specs.Told.{told_by, why_refusal}
 use Rattle.why.specs.Reasons.{Answers, AtWhy, as_run, next_step, Names, number_of}
 use Rattle.why.specs.WayOn.{WayOn}
 use Rattle.why.specs.declared.Reason.{Reason}
-use Rattle.why.specs.declared.Told.{Told}
-use Rattle.why.specs.declared.Told.TheVariants.{Given}
+use Rattle.std.specs.Prelude.{Ok, Result}
 use Rattle.why.proofs.Answers.{lists_below, answers_so, number_told, answer_shown, failure_shown}
 use Rattle.why.proofs.Reasons.{why_exact}
 use Rattle.why.proofs.WayOn.{named_goes_on as way_on, full_goes_down, changed_looks_again, none_for_dropped}
@@ -94,7 +93,7 @@ answered_by_value s count L recs i r is =
 -- ---- a state that calls reach
 -- where a run is not refused, the conditions are the entry's alone
 as_entry : (s : Lent) (L : Lock) (l : List Rec) (i c : ℕ) (Run : ℕ → Type 0) → Nothing Run → c ≡ entry_refusal (scripts_of s) L l i
-    → (r : Told) → r ≡ told_by s c (why (scripts_of s) L l i) → Answers s Run L l i r → AsEntry s L l i r
+    → (r : Result Reason Refusal) → r ≡ told_by s c (why (scripts_of s) L l i) → Answers s Run L l i r → AsEntry s L l i r
 as_entry s L l i c Run never c_is r is a = (
   subst (Exact (AtEntry (scripts_of s) L l i)) (sym (ap number_of is ∙ number_told s L l i c c_is ∙ c_is)) (entry_exact (scripts_of s) L l i),
   λ none. let (y, told) = a.told (nothing none) in (y, told, ((a.given y).0 told).1),
@@ -124,11 +123,11 @@ row_in_lem : (row : Row) (rest trace : List ℕ) → trace ≡ words_of (row ∷
 unfolding words_of
 row_in_lem row rest trace is = rw is refl
 
-shows_here : (s : Lent) (L : Lock) (l : List Rec) (i c : ℕ) → c ≡ entry_refusal (scripts_of s) L l i → (r : Told) → r ≡ told_by s c (why (scripts_of s) L l i)
+shows_here : (s : Lent) (L : Lock) (l : List Rec) (i c : ℕ) → c ≡ entry_refusal (scripts_of s) L l i → (r : Result Reason Refusal) → r ≡ told_by s c (why (scripts_of s) L l i)
     → (row : Row) → row ≡ (step (scripts_of s) L l i).row → Shows L r row
 shows_here s L l i c c_is r is row row_is =
     subst (Shows L r) (sym row_is)
-    (subst (λ (x : Told). Shows L x (step (scripts_of s) L l i).row) (sym is) (answer_shown s L l i c c_is, failure_shown s L l i c c_is))
+    (subst (λ (x : Result Reason Refusal). Shows L x (step (scripts_of s) L l i).row) (sym is) (answer_shown s L l i c c_is, failure_shown s L l i c c_is))
 
 pub shown_by_run : ShownByRun
 shown_by_run s L l i r is trace left left_is none room =
@@ -146,11 +145,11 @@ shown_by_run_by_value s count L recs i r is trace ran trace' ran_is trace_is non
 
 -- ---- demand 3
 -- the reason that is given is the one of the state
-of_state : (s : Lent) (Run : ℕ → Type 0) (L : Lock) (l : List Rec) (i : ℕ) (y : Reason) (r : Told) → Answers s Run L l i r → r ≡ Given y
+of_state : (s : Lent) (Run : ℕ → Type 0) (L : Lock) (l : List Rec) (i : ℕ) (y : Reason) (r : Result Reason Refusal) → Answers s Run L l i r → r ≡ Ok y
     → Sound (scripts_of s) L l × (why (scripts_of s) L l i ≡ y)
 of_state s Run L l i y r a is = let h = a.sound y is in (h, (why_exact (scripts_of s) L l i h y).1 ((a.given y).0 is).1)
 
-goes_on_here : (s : Lent) (Run : ℕ → Type 0) (L : Lock) (l : List Rec) (i w : ℕ) (y : Reason) (r : Told) → Answers s Run L l i r → r ≡ Given y → Names y w
+goes_on_here : (s : Lent) (Run : ℕ → Type 0) (L : Lock) (l : List Rec) (i w : ℕ) (y : Reason) (r : Result Reason Refusal) → Answers s Run L l i r → r ≡ Ok y → Names y w
     → Tidy (scripts_of s) L l → WayOn (scripts_of s) L l w
 goes_on_here s Run L l i w y r a is names tidy =
     let (h, same) = of_state s Run L l i y r a is in
@@ -163,7 +162,7 @@ pub named_goes_on_by_value : NamedGoesOnByValue
 named_goes_on_by_value s count L recs i w y r told =
     goes_on_here s (AtRunOf s count L (take count recs)) L (take count recs) i w y r (answered_by_value s count L recs i r told)
 
-unnamed_here : (s : Lent) (Run : ℕ → Type 0) (L : Lock) (l : List Rec) (i : ℕ) (y : Reason) (r : Told) → Answers s Run L l i r → r ≡ Given y
+unnamed_here : (s : Lent) (Run : ℕ → Type 0) (L : Lock) (l : List Rec) (i : ℕ) (y : Reason) (r : Result Reason Refusal) → Answers s Run L l i r → r ≡ Ok y
     → Tidy (scripts_of s) L l → Unnamed s L l i y
 unnamed_here s Run L l i y r a is tidy =
     let (h, same) = of_state s Run L l i y r a is in

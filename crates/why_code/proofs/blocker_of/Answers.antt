@@ -1,21 +1,15 @@
--- `blocker_of` meets its contract. Assumes nothing.
-use mathlib.Core.Path.{◌≡◌}
-use native.Mathlib.Omega.{arith}
-use lib.ListN.{length}
-use borrow.Author.Tests.{lt-ltb, le-ltb}
-use Rattle.lock_words.proofs.Loops.{size}
+-- `blocker_of` meets its contract: the place that is found is the definition's. Assumes nothing.
+use Rattle.std.proofs.Common.{rules, ◌≡◌, sym, ◌∙◌}
+use Rattle.std.specs.List.{position}
+use Rattle.std.proofs.lemmas.Iterator.{YieldsList-from_slice}
+use Rattle.std.proofs.lemmas.Iterator.Search.{position_from_yields_List}
+use Rattle.why_code.proofs.First.{blocker_is}
 use Rattle.why_code.proofs.blocker_of.Goals as goal
 
-pub returns-then-w-smaller : goal.returns-then-w-smaller
-returns-then-w-smaller c =
-    let a = c.args in
-    let whole : length a.recs ≡ 16 = omega arith in
-    let n = size a.count c.smaller.result a.recs whole c.smaller.ensures in
-    rw (← c.first_of-w.ensures, n, lt-ltb _ _ c.if-w-smaller.true)
-
-pub returns-else-w-smaller : goal.returns-else-w-smaller
-returns-else-w-smaller c =
-    let a = c.args in
-    let whole : length a.recs ≡ 16 = omega arith in
-    let n = size a.count c.smaller.result a.recs whole c.smaller.ensures in
-    rw (← c.first_of-w.ensures, n, le-ltb _ _ c.if-w-smaller.false)
+pub returns : goal.returns
+returns g c p k =
+    let place : c.position.result ≡ position p c.args.recs.now =
+    position_from_yields_List p _ _ c.position.result c.position.ensures.ran (YieldsList-from_slice c.args.recs.now c.iter.ensures.rest)
+    (λ x b q e. (search rules, k x.now b (search rules))) in
+    let same : c.map.result ≡ c.position.result = search rules in
+    same ∙ place ∙ sym (blocker_is p c.args.recs.now)

@@ -1,26 +1,27 @@
 -- `why` meets its contract: what a run of one entry answers is told. Assumes nothing.
-use native.Mathlib.Omega.{arith}
-use Rattle.machine.specs.Lists.{lists}
+use Rattle.std.proofs.Common.{◌≡◌, min, length, arith}
+use Rattle.std.proofs.lemmas.List.{take_min}
+use Rattle.machine.specs.Lists.{lent}
 use Rattle.why_code.proofs.Calls.{run_refused, step_refused, reason_told}
 use Rattle.why_code.proofs.why.Goals as goal
 
-pub returns-then-refusal-ne-NONE : goal.returns-then-refusal-ne-NONE
-returns-then-refusal-ne-NONE c =
+pub returns-then-ran-ne-NONE : goal.returns-then-ran-ne-NONE
+returns-then-ran-ne-NONE c =
     let a = c.args in
     let ran = c.run-ran in
-    run_refused (lists a.lens.now a.ops.now a.vals.now) a.count a.lock a.recs a.thread _ (omega arith)
-    ran.result _ ran.ensures.value ran.ensures.trace_after c.if-refusal-ne-NONE.true
+    run_refused (lent a.lists) a.count a.lock a.recs a.thread _ (omega arith) ran.result _ ran.ensures.value ran.ensures.trace_after c.if-ran-ne-NONE.true
 
-pub returns-then-row-ne-NONE : goal.returns-then-row-ne-NONE
-returns-then-row-ne-NONE c =
+pub returns-then-answer-ne-NONE : goal.returns-then-answer-ne-NONE
+returns-then-answer-ne-NONE c =
     let a = c.args in
     let ran = c.run-ran in
-    step_refused (lists a.lens.now a.ops.now a.vals.now) a.count a.lock a.recs a.thread _ (omega arith)
-    ran.result _ ran.ensures.value ran.ensures.trace_after c.if-refusal-ne-NONE.false c.if-row-ne-NONE.true
+    step_refused (lent a.lists) a.count a.lock a.recs a.thread _ (omega arith) ran.result _ ran.ensures.value ran.ensures.trace_after
+    c.if-ran-ne-NONE.false c.if-answer-ne-NONE.true
 
 pub returns : goal.returns
 returns c =
     let a = c.args in
     let ran = c.run-ran in
-    reason_told (lists a.lens.now a.ops.now a.vals.now) a.count a.lock a.recs a.thread _ (omega arith)
-    ran.result _ ran.ensures.value ran.ensures.trace_after c.if-refusal-ne-NONE.false c.if-row-ne-NONE.false _ c.reason_of.ensures
+    let n : c.min-n.result ≡ min a.count (length a.recs) = omega arith in
+    reason_told (lent a.lists) a.count a.lock a.recs a.thread _ (omega arith) ran.result _ ran.ensures.value ran.ensures.trace_after
+    c.if-ran-ne-NONE.false c.if-answer-ne-NONE.false _ (rw (n, take_min) at c.reason_of.ensures)

@@ -1,6 +1,6 @@
 -- `write_answers` meets its contract: two stores, one behind the other. Assumes nothing.
 use native.Mathlib.Omega.{arith}
-use Rattle.machine.specs.Lists.{lists}
+use Rattle.machine.specs.Lists.{lent}
 use Rattle.why_prints.specs.Prints.{why_header}
 use Rattle.why_prints.proofs.Texts.{header_put, answers_put}
 use Rattle.why_prints.proofs.write_answers.Goals as goal
@@ -18,5 +18,5 @@ unfolding why_header
 returns c =
     let start = c in
     let a = start.args in
-    answers_put (lists a.lens.now a.ops.now a.vals.now) a.standing start.requires (c.put_bytes-n.ensures.value, c.put_bytes-n.ensures.out_after)
+    answers_put (lent a.lists) a.standing start.requires (c.put_bytes-n.ensures.value, c.put_bytes-n.ensures.out_after)
     c.write_lines.ensures
