@@ -1,3 +1,5 @@
+pub mod Told
+pub mod Busy
 pub mod Room
 pub mod Turn
 pub mod Piece

@@ -1,6 +1,6 @@
 // Drain: the refusals 5, 6, 7, 10 and 17, then the entries of the drain order.
 ghost use Rattle.std.specs.Prelude.{ℕ, ◌+◌, ◌*◌, ◌<◌, ◌≤◌, ◌^◌, ◌≡◌, length, take};
-ghost use Rattle.machine.specs.Lists.{lent, scripts_of, beside};
+ghost use Rattle.machine.specs.Lists.{lent, scripts_of, answered};
 ghost use Rattle.machine.specs.Tidy.{price, cost, bound};
 ghost use Rattle.machine.specs.Drain.{until, sweep, drain};
 ghost use Rattle.lock_tidy.specs.Rests.{words_at};
@@ -9,15 +9,21 @@ ghost use Rattle.lock.specs.Run.{Ready};
 ghost use Rattle.lock.specs.Drain.{stops_at, stop_of, UnderWay, start_of, going_of, drained_of};
 
 use super::{entered, refused, run};
-use lock_words::names::{ACQUIRE_READ, ACQUIRE_WRITE, NONE, RELEASE_WRITE, UNTIDY};
+use lock_words::names::{ACQUIRE_READ, ACQUIRE_WRITE, RELEASE_WRITE, Refused};
 use machine::{Lists, Lock, Place, Rec, Refusal};
 
-// What a drain returns: the refusal, whose number is 0 for none; how many entries it made; the lock and the records as they are left.
+// What a drain tells: the refusal, if there is one; how many entries it made; the lock as it is left.
 #[derive(Clone, Copy)]
-pub struct DrainReturn {
-    pub refusal: Refusal,
+pub struct Drained {
+    pub refusal: Option<Refusal>,
     pub n: u64,
     pub lock: Lock,
+}
+
+// The same with the records as they are left.
+#[derive(Clone, Copy)]
+pub struct DrainReturn {
+    pub drained: Drained,
     pub recs: [Rec; 16],
 }
 
@@ -39,70 +45,46 @@ struct Going {
 }
 
 // The records are the first `count` of the array; the others stay as they are.
-pub fn drain(
-    lists: Lists,
-    lock: Lock,
-    recs: [Rec; 16],
-    count: u64,
-) -> DrainReturn
+pub fn drain(lists: Lists, lock: Lock, recs: [Rec; 16], count: u64) -> DrainReturn
     ensures { result ≡ drained_of count recs (drain_of (lent lists.entry) count lock recs) }
 {
-    let why = refusal(lists, lock, recs, count);
-    if why.number != NONE {
-        return DrainReturn {
-            refusal: why,
+    if let Err(why) = refusal(lists, lock, recs, count) {
+        let drained = Drained {
+            refusal: Some(why),
             n: 0,
             lock,
-            recs,
         };
+        return DrainReturn { drained, recs };
     }
     let end = drain_ready(lists, lock, recs);
-    let lock = end.lock;
-    let recs = end.recs;
-    DrainReturn {
-        refusal: why,
+    let drained = Drained {
+        refusal: None,
         n: end.used,
-        lock,
-        recs,
-    }
+        lock: end.lock,
+    };
+    let recs = end.recs;
+    DrainReturn { drained, recs }
 }
 
 // How many entries a drain takes at most: the plain cost and three a thread, and 0 where drain is refused.
-pub fn bound_of(
-    lists: Lists,
-    lock: Lock,
-    recs: [Rec; 16],
-    count: u64,
-) -> u64
+pub fn bound_of(lists: Lists, lock: Lock, recs: [Rec; 16], count: u64) -> u64
     ensures { result ≡ bound_of (lent lists.entry) count lock recs }
 {
-    let why = refusal(lists, lock, recs, count);
-    if why.number != NONE {
-        return 0;
+    match refusal(lists, lock, recs, count) {
+        Ok(()) => bound(lists, recs),
+        Err(_) => 0,
     }
-    bound(lists.lens, lists.ops, recs)
 }
 
 // 5, 6, 7 and 10 are run's too, 17 is drain's own.
-fn refusal(
-    lists: Lists,
-    lock: Lock,
-    recs: [Rec; 16],
-    count: u64,
-) -> Refusal
-    ensures { let s = lent lists.entry in result ≡ beside s (drain_refusal_of s count lock (take count recs)) }
+fn refusal(lists: Lists, lock: Lock, recs: [Rec; 16], count: u64) -> Result<(), Refusal>
+    ensures { let s = lent lists.entry in result ≡ answered s (drain_refusal_of s count lock (take count recs)) }
 {
-    let why = refused::refused(lists, lock, recs, count);
-    if why.number != NONE {
-        return why;
-    }
-    if lock_tidy::is_tidy(lists, lock, recs, count) {
-        return why;
-    }
-    Refusal {
-        number: UNTIDY,
-        thread: 0,
-        place: 0,
+    refused::refused(lists, lock, recs, count)?;
+    if lock_tidy::is_tidy(lists, lock, &recs[..count as usize]) {
+        Ok(())
+    } else {
+        Err(Refusal::from(Refused::Untidy))
     }
 }
 
@@ -112,7 +94,7 @@ fn drain_ready(lists: Lists, lock: Lock, recs: [Rec; 16]) -> Going
     ensures { let s = lent lists.entry in let l = take (length lists.entry.lens.now) recs in result ≡ going_of s (start_of s lock recs) (drain (scripts_of s) lock l) }
 {
     let n = lists.lens.len() as u64;
-    let fuel = bound(lists.lens, lists.ops, recs) + 2 * n;
+    let fuel = bound(lists, recs) + 2 * n;
     let start = Going {
         lock,
         recs,
@@ -135,22 +117,14 @@ fn sweep(stop: Stop, fuel: u64, from: Going, lists: Lists) -> Going
     ensures result_value { let s = lent lists.entry in let n = length lists.entry.lens.now in result ≡ going_of s from (sweep (stop_of stop (scripts_of s)) (scripts_of s) fuel 0 n from.lock (take n from.recs)) }
 {
     let mut g = from;
-    let mut k = 0;
-    while k < lists.lens.len() {
+    for k in 0..lists.lens.len() {
         g = until(stop, k, fuel, g, lists);
-        k += 1;
     }
     g
 }
 
 // Thread i steps until it stops, at most `fuel` times.
-fn until(
-    stop: Stop,
-    i: usize,
-    fuel: u64,
-    from: Going,
-    lists: Lists,
-) -> Going
+fn until(stop: Stop, i: usize, fuel: u64, from: Going, lists: Lists) -> Going
     requires under_way { UnderWay (lent lists) from }
     requires i_in_bounds { i < length lists.lens.now }
     requires fuel_bound { from.used + fuel < 2 ^ 64 }
@@ -158,49 +132,28 @@ fn until(
     ensures used_bound { result.used ≤ from.used + fuel }
     ensures result_value { let s = lent lists.entry in let n = length lists.entry.lens.now in result ≡ going_of s from (until (stop_of stop (scripts_of s)) (scripts_of s) i fuel from.lock (take n from.recs)) }
 {
-    let len = lists.lens[i];
     let start = lock_scripts::start_of(lists.lens, i as u64, lists.ops.len() as u64);
-    let mut lock = from.lock;
-    let mut recs = from.recs;
-    let mut busy = from.busy;
-    let mut used = from.used;
-    let mut left = fuel;
-    while 0 < left {
-        let rec = recs[i];
-        if stops(stop, rec, len) {
-            return Going {
-                lock,
-                recs,
-                busy,
-                used,
-            };
+    let mut g = from;
+    for _ in 0..fuel {
+        if stops(stop, g.recs[i], lists.lens[i]) {
+            return g;
         }
-        let e = entered::enter_at(lock, rec, i as u64, len, busy, start, lists.ops, lists.vals);
-        let after = e.lock;
-        let rec = e.rec;
-        lock = after;
-        recs[i] = rec;
-        busy = e.busy;
-        used += 1;
-        left -= 1;
+        let e = entered::enter_at(lists, g.lock, g.recs[i], i as u64, g.busy, start);
+        g.lock = e.lock;
+        g.recs[i] = e.rec;
+        g.busy = e.busy;
+        g.used += 1;
     }
-    Going {
-        lock,
-        recs,
-        busy,
-        used,
-    }
+    g
 }
 
 // Whether a record with a script of that length stops.
 pub fn stops(stop: Stop, rec: Rec, len: u64) -> bool
     ensures { result ≡ stops_at stop len rec }
 {
-    let place = rec.place;
     match stop {
-        Stop::IdleOrWait => lock_words::is(place, Place::Idle)
-            || lock_words::is(place, Place::WriteWait),
-        Stop::Idle => lock_words::is(place, Place::Idle),
+        Stop::IdleOrWait => matches!(rec.place, Place::Idle | Place::WriteWait),
+        Stop::Idle => rec.place == Place::Idle,
         Stop::End => len <= rec.at,
     }
 }
@@ -213,12 +166,9 @@ fn bound(lists: Lists, recs: [Rec; 16]) -> u64
     ensures upper_bound { result ≤ 3120 }
 {
     let mut sum = 0;
-    let mut k = 0;
-    while k < lists.lens.len() {
-        let rec = recs[k];
+    for (k, len) in lists.lens.iter().enumerate() {
         let start = lock_scripts::start_of(lists.lens, k as u64, lists.ops.len() as u64);
-        sum += cost(lists.ops, start, lists.lens[k], rec.at) + 3;
-        k += 1;
+        sum += cost(lists.ops, start, *len, recs[k].at) + 3;
     }
     sum
 }
@@ -229,10 +179,8 @@ fn cost(ops: &[u64], start: u64, len: u64, at: u64) -> u64
     ensures { result ≡ cost (words_at ops.now start) len at }
 {
     let mut sum = 0;
-    let mut k = at;
-    while k < len {
+    for k in at..len {
         sum += price(lock_scripts::word_at(ops, start, k));
-        k += 1;
     }
     sum
 }
@@ -241,8 +189,9 @@ fn cost(ops: &[u64], start: u64, len: u64, at: u64) -> u64
 fn price(o: u64) -> u64
     ensures { result ≡ price o }
 {
-    if o == ACQUIRE_READ || o == ACQUIRE_WRITE {
-        return 3;
+    match o {
+        ACQUIRE_READ | ACQUIRE_WRITE => 3,
+        RELEASE_WRITE => 2,
+        _ => 1,
     }
-    if o == RELEASE_WRITE { 2 } else { 1 }
 }

@@ -7,17 +7,22 @@ ghost use Rattle.lock.specs.ByValue.{run_of};
 ghost use Rattle.lock.specs.Run.{ran_of, ready_of, Ready, rest_of, rest_trace};
 
 use super::{entered, refused, trace};
-use lock_words::names::{NO_ACCESS, NO_THREAD, NONE};
-use machine::{Lists, Lock, ROW_WORDS, Rec, Refusal};
+use lock_words::names::{NO_ACCESS, NONE, Refused};
+use machine::{Lists, Lock, Place, ROW_WORDS, Rec, Refusal};
 
-// What a run returns: the refusal, whose number is 0 for none; n; the number of rows with answer 0; the lock and the records as they
-// are left.
+// What a run tells: the refusal, if there is one; n; the number of rows with answer 0; the lock as it is left.
 #[derive(Clone, Copy)]
-pub struct RunReturn {
-    pub refusal: Refusal,
+pub struct Ran {
+    pub refusal: Option<Refusal>,
     pub n: u64,
     pub done: u64,
     pub lock: Lock,
+}
+
+// The same with the records as they are left.
+#[derive(Clone, Copy)]
+pub struct RunReturn {
+    pub ran: Ran,
     pub recs: [Rec; 16],
 }
 
@@ -34,18 +39,17 @@ pub fn run(
     ensures value { result ≡ ran_of count recs (run_of (lent lists.entry) count lock recs schedule.now budget trace.old) }
     ensures trace_after { trace.new ≡ (run_of (lent lists.entry) count lock recs schedule.now budget trace.old).trace }
 {
-    let why = refused::refused(lists, lock, recs, count);
-    if why.number != NONE {
-        return RunReturn {
-            refusal: why,
+    if let Err(why) = refused::refused(lists, lock, recs, count) {
+        let ran = Ran {
+            refusal: Some(why),
             n: 0,
             done: 0,
             lock,
-            recs,
         };
+        return RunReturn { ran, recs };
     }
     let room = (trace.len() / ROW_WORDS) as u64;
-    let n = lock_words::smaller(budget, lock_words::smaller(schedule.len() as u64, room));
+    let n = budget.min((schedule.len() as u64).min(room));
     run_ready(lists, lock, recs, schedule, n, trace)
 }
 
@@ -108,32 +112,27 @@ fn run_ready(
     let mut rs = recs;
     let mut busy = busy_among(recs, count);
     let mut done = 0;
-    let mut k = 0;
-    while k < n {
+    for k in 0..n {
         let t = schedule[k as usize];
-        let mut row = entered::row_of(l, t, NO_ACCESS, NO_THREAD, 0);
+        let mut row = entered::row_of(l, t, NO_ACCESS, u64::from(Refused::NoThread), 0);
         if t < count {
             let i = t as usize;
-            let r = rs[i];
-            let e = entered::enter_at(l, r, t, lists.lens[i], busy, starts[i], lists.ops, lists.vals);
-            let after = e.lock;
-            let rec = e.rec;
-            l = after;
-            rs[i] = rec;
+            let e = entered::enter_at(lists, l, rs[i], t, busy, starts[i]);
+            l = e.lock;
+            rs[i] = e.rec;
             busy = e.busy;
             row = e.row;
         }
         trace::put_row(trace, ROW_WORDS * k as usize, row);
-        done += one_if_zero(row.answer);
-        k += 1;
+        done += u64::from(row.answer == NONE);
     }
-    RunReturn {
-        refusal: none(),
+    let ran = Ran {
+        refusal: None,
         n,
         done,
         lock: l,
-        recs: rs,
-    }
+    };
+    RunReturn { ran, recs: rs }
 }
 
 // Where each thread's script starts, cut at `most`, past which there is no word.
@@ -143,43 +142,21 @@ fn starts_of(lens: &[u64], most: u64) -> [u64; 16]
 {
     let mut starts = [0; 16];
     let mut sum = 0;
-    let mut t = 0;
-    while t < lens.len() {
+    for (t, len) in lens.iter().enumerate() {
         starts[t] = sum;
-        sum += lock_words::smaller(lens[t], most - sum);
-        t += 1;
+        sum += (most - sum).min(*len);
     }
     starts
 }
 
 // How many of the first `count` records are not Idle.
+#[tactic(auto, using(crate::proofs::Busy::counted))]
 pub(crate) fn busy_among(recs: [Rec; 16], count: u64) -> u64
     requires { count ≤ 16 }
     ensures { result ≡ busy (take count recs) }
 {
-    let mut busy = 0;
-    let mut k = 0;
-    while k < count {
-        let r = recs[k as usize];
-        busy += entered::busy_of(r);
-        k += 1;
-    }
-    busy
-}
-
-fn one_if_zero(n: u64) -> u64
-    ensures value { result ≡ bit (eqb n 0) }
-    ensures upper_bound { result ≤ 1 }
-{
-    if n == NONE { 1 } else { 0 }
-}
-
-fn none() -> Refusal
-    ensures { result ≡ record { number = 0; thread = 0; place = 0 } }
-{
-    Refusal {
-        number: NONE,
-        thread: 0,
-        place: 0,
-    }
+    recs[..count as usize]
+        .iter()
+        .filter(|rec| rec.place != Place::Idle)
+        .count() as u64
 }

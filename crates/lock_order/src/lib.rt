@@ -1,7 +1,7 @@
 // The entries of the drain order, written into a lent list; lock and records are not changed.
 #![tactic(auto)]
 
-ghost use Rattle.std.specs.Prelude.{◌+◌, ◌<◌, ◌≤◌, ◌^◌, ◌≡◌, length, take};
+ghost use Rattle.std.specs.Prelude.{◌+◌, ◌<◌, ◌≤◌, ◌^◌, ◌≡◌, Some, length, take};
 ghost use Rattle.std.proofs.lemmas.List.Edits.{sets};
 ghost use Rattle.machine.specs.Lists.{lent, scripts_of};
 ghost use Rattle.machine.specs.Drain.{until, sweep};
@@ -11,20 +11,16 @@ ghost use Rattle.lock_order.specs.Order.{order_of, answer_of};
 ghost use Rattle.lock_order.specs.Write.{Able, one_of, within, went_of};
 
 use lock::drain::{Stop, stops};
-use lock_words::names::NONE;
-use machine::{Lists, Lock, Rec, Refusal};
+use machine::{Lists, Lock, ROW_WORDS, Rec, Refusal};
 
 // The refusal where the entries have no room.
 pub const NO_ROOM: u64 = 41;
 
-// The words of a row of a run.
-const ROW: usize = 6;
-
-// The refusal, whose number is 0 for none; how many entries were written; how many they are at most by the rules: the plain cost of the
-// state given and three a thread.
+// The refusal, if there is one; how many entries were written; how many they are at most by the rules: the plain cost of the state given
+// and three a thread.
 #[derive(Clone, Copy)]
 pub struct Answer {
-    pub refusal: Refusal,
+    pub refusal: Option<Refusal>,
     pub n: u64,
     pub bound: u64,
 }
@@ -39,53 +35,41 @@ struct Going {
 
 // The records are the first `count` of the array. The entries stand at the start of `out`, and words behind them stay. Refused as drain
 // is, then by 41 where they have no room. They are counted first, by drain itself, so that a refusal has written nothing.
-pub fn drain_order(
-    lists: Lists,
-    lock: Lock,
-    recs: [Rec; 16],
-    count: u64,
-    out: &mut [u64],
-) -> Answer
+pub fn drain_order(lists: Lists, lock: Lock, recs: [Rec; 16], count: u64, out: &mut [u64]) -> Answer
     ensures value { result ≡ answer_of (order_of (lent lists.entry) count lock recs out.old) }
     ensures out_after { out.new ≡ (order_of (lent lists.entry) count lock recs out.old).out }
 {
-    let end = lock::drain::drain(lists, lock, recs, count);
-    let why = end.refusal;
-    if why.number != NONE {
-        return Answer {
-            refusal: why,
-            n: 0,
-            bound: 0,
-        };
+    let end = lock::drain::drain(lists, lock, recs, count).drained;
+    if let Some(why) = end.refusal {
+        return refused(why);
     }
     if (out.len() as u64) < end.n {
-        return Answer {
-            refusal: Refusal {
-                number: NO_ROOM,
-                thread: 0,
-                place: 0,
-            },
-            n: 0,
-            bound: 0,
-        };
+        return refused(Refusal {
+            number: NO_ROOM,
+            thread: 0,
+            place: 0,
+        });
     }
     write(lists, lock, recs, count, end.n, out);
     Answer {
-        refusal: why,
+        refusal: None,
         n: end.n,
         bound: lock::drain::bound_of(lists, lock, recs, count),
     }
 }
 
+fn refused(why: Refusal) -> Answer
+    ensures { result ≡ record { refusal = Some why; n = 0; bound = 0 } }
+{
+    Answer {
+        refusal: Some(why),
+        n: 0,
+        bound: 0,
+    }
+}
+
 // The three parts of the order, where nothing is refused; n is as much as any thread needs.
-fn write(
-    lists: Lists,
-    lock: Lock,
-    recs: [Rec; 16],
-    count: u64,
-    n: u64,
-    out: &mut [u64],
-)
+fn write(lists: Lists, lock: Lock, recs: [Rec; 16], count: u64, n: u64, out: &mut [u64])
     requires recs_value { run_refusal_of (lent lists) count lock (take count recs) ≡ 0 }
     requires recs_in_bounds { length (within n (scripts_of (lent lists)) lock (take count recs)).made ≤ length out.old }
     ensures { out.new ≡ sets out.old 0 (within n (scripts_of (lent lists.entry)) lock (take count recs)).made }
@@ -101,14 +85,7 @@ fn write(
 }
 
 // One part: each thread in its turn steps until it stops, at most `fuel` times.
-fn sweep(
-    stop: Stop,
-    fuel: u64,
-    from: Going,
-    lists: Lists,
-    count: u64,
-    out: &mut [u64],
-) -> Going
+fn sweep(stop: Stop, fuel: u64, from: Going, lists: Lists, count: u64, out: &mut [u64]) -> Going
     requires able { Able (lent lists) count from }
     requires recs_in_bounds { let S = scripts_of (lent lists) in from.used + length (sweep (stop_of stop S) S fuel 0 count from.lock (take count from.recs)).made ≤ length out.old }
     ensures able_2 { Able (lent lists.entry) count result }
@@ -116,10 +93,8 @@ fn sweep(
     ensures out_after { let S = scripts_of (lent lists.entry) in out.new ≡ sets out.old from.used (sweep (stop_of stop S) S fuel 0 count from.lock (take count from.recs)).made }
 {
     let mut g = from;
-    let mut k = 0;
-    while k < lists.lens.len() {
+    for k in 0..lists.lens.len() {
         g = until(stop, k, fuel, g, lists, count, out);
-        k += 1;
     }
     g
 }
@@ -141,19 +116,13 @@ fn until(
     ensures result_value { let S = scripts_of (lent lists.entry) in result ≡ went_of count from (until (stop_of stop S) S i fuel from.lock (take count from.recs)) }
     ensures out_after { let S = scripts_of (lent lists.entry) in out.new ≡ sets out.old from.used (until (stop_of stop S) S i fuel from.lock (take count from.recs)).made }
 {
-    let len = lists.lens[i];
     let mut g = from;
-    let mut left = fuel;
-    while 0 < left {
-        let recs = g.recs;
-        let rec = recs[i];
-        if stops(stop, rec, len) {
+    for _ in 0..fuel {
+        if stops(stop, g.recs[i], lists.lens[i]) {
             return g;
         }
-        let at = g.used;
-        out[at] = i as u64;
+        out[g.used] = i as u64;
         g = stepped(g, i as u64, lists, count);
-        left -= 1;
     }
     g
 }
@@ -164,16 +133,13 @@ fn stepped(from: Going, i: u64, lists: Lists, count: u64) -> Going
     requires used_bound { from.used + 1 < 2 ^ 64 }
     ensures { result ≡ went_of count from (one_of (scripts_of (lent lists.entry)) from.lock (take count from.recs) i) }
 {
-    let schedule = [i];
-    let mut row = [0; ROW];
-    let lock = from.lock;
-    let recs = from.recs;
-    let ran = lock::run::run(lists, lock, recs, count, &schedule, 1, &mut row);
-    let lock = ran.lock;
-    let recs = ran.recs;
+    let Going { lock, recs, used } = from;
+    let mut row = [0; ROW_WORDS];
+    let left = lock::run::run(lists, lock, recs, count, &[i], 1, &mut row);
+    let recs = left.recs;
     Going {
-        lock,
+        lock: left.ran.lock,
         recs,
-        used: from.used + 1,
+        used: used + 1,
     }
 }
