@@ -14,25 +14,6 @@ use Rattle.std.specs.Prelude.{Option, None, Some, Err, Ok, position}
 use Rattle.lock_scripts.specs.Checks.{fit, code_check, place_from}
 use Rattle.lock_scripts.proofs.Long.{long_there, none_long}
 
-module _ (s : Lent) (records : ℕ) where
-  -- operations and values of unequal number are not both of the number that the lengths say
-  pub uneven : (length s.ops ≡ length s.vals → ⊥) → fit s records ≡ false
-  uneven h = go (eqb (length s.ops) (total s.lens)) refl
-    where
-      go : (b : Bool) → eqb (length s.ops) (total s.lens) ≡ b
-          → (b && (eqb (length s.vals) (total s.lens) && eqb records (length s.lens))) ≡ false
-      go true e = rw (ne_eqb (length s.vals) (total s.lens) (λ q. h (eqb-true _ _ e ∙ sym q)))
-      go false e = refl
-
-  pub uncounted : (records ≡ length s.lens → ⊥) → fit s records ≡ false
-  uncounted h = simp (ne_eqb _ _ h, and-false)
-
-  pub counted : length s.ops ≡ length s.vals → records ≡ length s.lens → fit s records ≡ eqb (length s.ops) (total s.lens)
-  counted e f = rw (← e, f, eq-eqb (length s.lens) (length s.lens) refl, and-true, and_self)
-
-  pub summed : fit s records ≡ true → length s.ops ≡ total s.lens
-  summed e = eqb-true _ _ ((and-eq-true_iff _ _).0 e).0
-
 abbrev refusal : ℕ → ℕ → ℕ → Refusal
 refusal number thread place = record { number = number; thread = thread; place = place }
 

@@ -41,16 +41,8 @@ cut {P} s n below past = go (leb s n) refl
     go true e = below (min-eq_left (leb-true _ _ e))
     go false e = let h : n < s = leb-false _ _ e in past (omega arith) (omega arith)
 
--- there is no script past the last
-pub start_cut : (lens : List ℕ) (i : ℕ) → start lens (min i (length lens)) ≡ start lens i
-start_cut lens i = cut i (length lens) (λ e. rw e) (λ e h. rw (e, take-length, take_all i lens h))
-
 -- a start that is cut at the list's end reads the same word
 pub capped : (words : List ℕ) (s at : ℕ) → get_or words (min s (length words) + at) 0 ≡ get_or words (s + at) 0
 capped words s at =
     cut s (length words) (λ e. rw e)
     (λ e h. rw e (get_or-eq_default words 0 (omega arith) ∙ sym (get_or-eq_default words 0 (omega arith))))
-
--- a sum that is cut one above n still tells whether it is n
-pub told : (sum n : ℕ) → eqb n (min sum (n + 1)) ≡ eqb n sum
-told sum n = cut sum (n + 1) (λ e. rw e) (λ e h. rw (ne_eqb n (min sum (n + 1)) (λ q. omega arith), ne_eqb n sum (λ q. omega arith)))
