@@ -63,8 +63,8 @@ fn left_alone(lock: Lock, rec: Rec, i: u64, busy: u64, k: u64) -> Entered
     ensures { result ≡ left_alone lock rec i busy k }
 {
     Entered {
-        lock: lock_words::remade(lock),
-        rec: lock_words::rec_remade(rec),
+        lock,
+        rec,
         busy,
         row: row_of(lock, i, NO_ACCESS, k, 0),
     }
@@ -75,8 +75,8 @@ fn changed(d: Did, i: u64, others: u64) -> Entered
     ensures { result ≡ changed d i others }
 {
     Entered {
-        lock: lock_words::remade(d.lock),
-        rec: lock_words::rec_remade(d.rec),
+        lock: d.lock,
+        rec: d.rec,
         busy: others + busy_of(d.rec),
         row: row_of(d.lock, i, d.access, NONE, d.got),
     }

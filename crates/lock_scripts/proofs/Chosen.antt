@@ -1,14 +1,14 @@
 -- Whether the lengths fit, which of the checks of what is lent is the first that applies, and what stands beside its number.
 use Prim.Native.Nat.{ℕ, ◌<◌, ◌≤◌}
-use mathlib.Core.Path.{◌≡◌, refl, sym, ◌∙◌}
-use mathlib.Core.Bool.{Bool, true, false, ◌&&◌, and-true, and-false, and_self, and-eq-true_iff}
+use mathlib.Core.Path.{◌≡◌}
+use mathlib.Core.Bool.{true, false}
 use mathlib.Core.List.{[], ◌∷◌}
-use lib.Dec.{eqb, ltb}
+use lib.Dec.{ltb}
 use lib.ListN.{length, get_or}
-use package.borrow.Author.Tests.{lt-ltb, le-ltb, eqb-true, eq-eqb, ne_eqb}
+use package.borrow.Author.Tests.{lt-ltb, le-ltb}
 use Rattle.machine.specs.Names.{longest_script, script_too_long, wrong_lengths, wrong_code}
 use Rattle.machine.specs.Refusals.{lowest}
-use Rattle.machine.specs.Lists.{Lent, total, start, scripts_of, wrong_place, wrong_thread, list_checks, beside, answered}
+use Rattle.machine.specs.Lists.{Lent, start, scripts_of, wrong_place, wrong_thread, list_checks, beside, answered}
 use Rattle.machine.specs.declared.Refusal.{Refusal}
 use Rattle.std.specs.Prelude.{Option, None, Some, Err, Ok, position}
 use Rattle.lock_scripts.specs.Checks.{fit, code_check, place_from}

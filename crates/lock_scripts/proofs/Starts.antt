@@ -6,10 +6,10 @@ use mathlib.Core.List.{List, [], ◌∷◌}
 use native.Mathlib.Nat.{min-eq_left}
 use native.Mathlib.Numerals.{add-one}
 use native.Mathlib.Omega.{arith}
-use lib.Dec.{eqb, leb}
+use lib.Dec.{leb}
 use lib.ListN.{length, get_or, get_or-eq_default}
-use lib.Seq.{take-nil, take_all, take-length}
-use package.borrow.Author.Tests.{leb-true, leb-false, ne_eqb}
+use lib.Seq.{take-nil, take-length}
+use package.borrow.Author.Tests.{leb-true, leb-false}
 use Rattle.machine.specs.Lists.{total, start}
 
 start_suc : (lens : List ℕ) (t : ℕ) → start lens (suc t) ≡ start lens t + get_or lens t 0
