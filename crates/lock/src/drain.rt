@@ -1,6 +1,6 @@
 // Drain: the refusals 5, 6, 7, 10 and 17, then the entries of the drain order.
 ghost use Rattle.std.specs.Prelude.{ℕ, ◌+◌, ◌*◌, ◌<◌, ◌≤◌, ◌^◌, ◌≡◌, length, take};
-ghost use Rattle.machine.specs.Lists.{lists, scripts_of, beside};
+ghost use Rattle.machine.specs.Lists.{lent, scripts_of, beside};
 ghost use Rattle.machine.specs.Tidy.{price, cost, bound};
 ghost use Rattle.machine.specs.Drain.{until, sweep, drain};
 ghost use Rattle.lock_tidy.specs.Rests.{words_at};
@@ -10,7 +10,7 @@ ghost use Rattle.lock.specs.Drain.{stops_at, stop_of, UnderWay, start_of, going_
 
 use super::{entered, refused, run};
 use lock_words::names::{ACQUIRE_READ, ACQUIRE_WRITE, NONE, RELEASE_WRITE, UNTIDY};
-use machine::{Lock, Place, Rec, Refusal};
+use machine::{Lists, Lock, Place, Rec, Refusal};
 
 // What a drain returns: the refusal, whose number is 0 for none; how many entries it made; the lock and the records as they are left.
 #[derive(Clone, Copy)]
@@ -39,17 +39,10 @@ struct Going {
 }
 
 // The records are the first `count` of the array; the others stay as they are.
-pub fn drain(
-    lens: &[u64],
-    ops: &[u64],
-    vals: &[u64],
-    lock: Lock,
-    recs: [Rec; 16],
-    count: u64,
-) -> DrainReturn
-    ensures { result ≡ drained_of count recs (drain_of (lists lens.now ops.now vals.now) count lock recs) }
+pub fn drain(lists: Lists, lock: Lock, recs: [Rec; 16], count: u64) -> DrainReturn
+    ensures { result ≡ drained_of count recs (drain_of (lent lists.entry) count lock recs) }
 {
-    let why = refusal(lens, ops, vals, lock, recs, count);
+    let why = refusal(lists, lock, recs, count);
     if why.number != NONE {
         return DrainReturn {
             refusal: why,
@@ -58,51 +51,36 @@ pub fn drain(
             recs,
         };
     }
-    let end = drain_ready(lens, ops, vals, lock, recs);
-    let lock = end.lock;
+    let end = drain_ready(lists, lock, recs);
     let recs = end.recs;
     DrainReturn {
         refusal: why,
         n: end.used,
-        lock,
+        lock: end.lock,
         recs,
     }
 }
 
 // How many entries a drain takes at most: the plain cost and three a thread, and 0 where drain is refused.
-pub fn bound_of(
-    lens: &[u64],
-    ops: &[u64],
-    vals: &[u64],
-    lock: Lock,
-    recs: [Rec; 16],
-    count: u64,
-) -> u64
-    ensures { result ≡ bound_of (lists lens.now ops.now vals.now) count lock recs }
+pub fn bound_of(lists: Lists, lock: Lock, recs: [Rec; 16], count: u64) -> u64
+    ensures { result ≡ bound_of (lent lists.entry) count lock recs }
 {
-    let why = refusal(lens, ops, vals, lock, recs, count);
+    let why = refusal(lists, lock, recs, count);
     if why.number != NONE {
         return 0;
     }
-    bound(lens, ops, recs)
+    bound(lists, recs)
 }
 
 // 5, 6, 7 and 10 are run's too, 17 is drain's own.
-fn refusal(
-    lens: &[u64],
-    ops: &[u64],
-    vals: &[u64],
-    lock: Lock,
-    recs: [Rec; 16],
-    count: u64,
-) -> Refusal
-    ensures { let s = lists lens.now ops.now vals.now in result ≡ beside s (drain_refusal_of s count lock (take count recs)) }
+fn refusal(lists: Lists, lock: Lock, recs: [Rec; 16], count: u64) -> Refusal
+    ensures { let s = lent lists.entry in result ≡ beside s (drain_refusal_of s count lock (take count recs)) }
 {
-    let why = refused::refused(lens, ops, vals, lock, recs, count);
+    let why = refused::refused(lists, lock, recs, count);
     if why.number != NONE {
         return why;
     }
-    if lock_tidy::is_tidy(lens, ops, vals, lock, recs, count) {
+    if lock_tidy::is_tidy(lists, lock, recs, count) {
         return why;
     }
     Refusal {
@@ -113,120 +91,86 @@ fn refusal(
 }
 
 // The three parts of the order, where nothing is refused.
-fn drain_ready(lens: &[u64], ops: &[u64], vals: &[u64], lock: Lock, recs: [Rec; 16]) -> Going
-    requires { Ready (lists lens.now ops.now vals.now) lock recs }
-    ensures { let s = lists lens.now ops.now vals.now in let l = take (length lens.now) recs in result ≡ going_of s (start_of s lock recs) (drain (scripts_of s) lock l) }
+fn drain_ready(lists: Lists, lock: Lock, recs: [Rec; 16]) -> Going
+    requires { Ready (lent lists) lock recs }
+    ensures { let s = lent lists.entry in let l = take (length lists.entry.lens.now) recs in result ≡ going_of s (start_of s lock recs) (drain (scripts_of s) lock l) }
 {
-    let n = lens.len() as u64;
-    let fuel = bound(lens, ops, recs) + 2 * n;
+    let n = lists.lens.len() as u64;
+    let fuel = bound(lists, recs) + 2 * n;
     let start = Going {
         lock,
         recs,
         busy: run::busy_among(recs, n),
         used: 0,
     };
-    let first = sweep(Stop::IdleOrWait, fuel, start, lens, ops, vals);
-    let second = sweep(Stop::Idle, fuel, first, lens, ops, vals);
-    sweep(Stop::End, fuel, second, lens, ops, vals)
+    let first = sweep(Stop::IdleOrWait, fuel, start, lists);
+    let second = sweep(Stop::Idle, fuel, first, lists);
+    sweep(Stop::End, fuel, second, lists)
 }
 
 // One part: each thread in its turn steps until it stops, at most `fuel` times. Sixteen threads, 4096 entries each, are far from what
 // a number holds.
-fn sweep(stop: Stop, fuel: u64, from: Going, lens: &[u64], ops: &[u64], vals: &[u64]) -> Going
-    requires under_way { UnderWay (lists lens.now ops.now vals.now) from }
+fn sweep(stop: Stop, fuel: u64, from: Going, lists: Lists) -> Going
+    requires under_way { UnderWay (lent lists) from }
     requires fuel_bound { fuel ≤ 4096 }
     requires used_bound { from.used ≤ 2 ^ 32 }
-    ensures under_way_2 { UnderWay (lists lens.now ops.now vals.now) result }
+    ensures under_way_2 { UnderWay (lent lists.entry) result }
     ensures used_bound_2 { result.used ≤ from.used + 65536 }
-    ensures result_value { let s = lists lens.now ops.now vals.now in let n = length lens.now in result ≡ going_of s from (sweep (stop_of stop (scripts_of s)) (scripts_of s) fuel 0 n from.lock (take n from.recs)) }
+    ensures result_value { let s = lent lists.entry in let n = length lists.entry.lens.now in result ≡ going_of s from (sweep (stop_of stop (scripts_of s)) (scripts_of s) fuel 0 n from.lock (take n from.recs)) }
 {
     let mut g = from;
-    let mut k = 0;
-    while k < lens.len() {
-        g = until(stop, k, fuel, g, lens, ops, vals);
-        k += 1;
+    for k in 0..lists.lens.len() {
+        g = until(stop, k, fuel, g, lists);
     }
     g
 }
 
 // Thread i steps until it stops, at most `fuel` times.
-fn until(
-    stop: Stop,
-    i: usize,
-    fuel: u64,
-    from: Going,
-    lens: &[u64],
-    ops: &[u64],
-    vals: &[u64],
-) -> Going
-    requires under_way { UnderWay (lists lens.now ops.now vals.now) from }
-    requires i_in_bounds { i < length lens.now }
+fn until(stop: Stop, i: usize, fuel: u64, from: Going, lists: Lists) -> Going
+    requires under_way { UnderWay (lent lists) from }
+    requires i_in_bounds { i < length lists.lens.now }
     requires fuel_bound { from.used + fuel < 2 ^ 64 }
-    ensures under_way_2 { UnderWay (lists lens.now ops.now vals.now) result }
+    ensures under_way_2 { UnderWay (lent lists.entry) result }
     ensures used_bound { result.used ≤ from.used + fuel }
-    ensures result_value { let s = lists lens.now ops.now vals.now in let n = length lens.now in result ≡ going_of s from (until (stop_of stop (scripts_of s)) (scripts_of s) i fuel from.lock (take n from.recs)) }
+    ensures result_value { let s = lent lists.entry in let n = length lists.entry.lens.now in result ≡ going_of s from (until (stop_of stop (scripts_of s)) (scripts_of s) i fuel from.lock (take n from.recs)) }
 {
-    let len = lens[i];
-    let start = lock_scripts::start_of(lens, i as u64, ops.len() as u64);
-    let mut lock = from.lock;
-    let mut recs = from.recs;
-    let mut busy = from.busy;
-    let mut used = from.used;
-    let mut left = fuel;
-    while 0 < left {
-        let rec = recs[i];
-        if stops(stop, rec, len) {
-            return Going {
-                lock,
-                recs,
-                busy,
-                used,
-            };
+    let start = lock_scripts::start_of(lists.lens, i as u64, lists.ops.len() as u64);
+    let mut g = from;
+    for _ in 0..fuel {
+        if stops(stop, g.recs[i], lists.lens[i]) {
+            return g;
         }
-        let e = entered::enter_at(lock, rec, i as u64, len, busy, start, ops, vals);
-        let after = e.lock;
-        let rec = e.rec;
-        lock = after;
-        recs[i] = rec;
-        busy = e.busy;
-        used += 1;
-        left -= 1;
+        let e = entered::enter_at(lists, g.lock, g.recs[i], i as u64, g.busy, start);
+        g.lock = e.lock;
+        g.recs[i] = e.rec;
+        g.busy = e.busy;
+        g.used += 1;
     }
-    Going {
-        lock,
-        recs,
-        busy,
-        used,
-    }
+    g
 }
 
 // Whether a record with a script of that length stops.
 pub fn stops(stop: Stop, rec: Rec, len: u64) -> bool
     ensures { result ≡ stops_at stop len rec }
 {
-    let place = rec.place;
     match stop {
-        Stop::IdleOrWait => lock_words::is(place, Place::Idle)
-            || lock_words::is(place, Place::WriteWait),
-        Stop::Idle => lock_words::is(place, Place::Idle),
+        Stop::IdleOrWait => matches!(rec.place, Place::Idle | Place::WriteWait),
+        Stop::Idle => rec.place == Place::Idle,
         Stop::End => len <= rec.at,
     }
 }
 
 // The plain cost of all scripts, and three entries for each thread: at most 16 times 3 * 64 + 3.
-fn bound(lens: &[u64], ops: &[u64], recs: [Rec; 16]) -> u64
-    requires lens_len_bound { length lens.now ≤ 16 }
-    requires by_index { (i : ℕ) → i < length lens.now → (scripts_of (lists lens.now ops.now ops.now)).len i ≤ 64 }
-    ensures value { result ≡ bound (scripts_of (lists lens.now ops.now ops.now)) (take (length lens.now) recs) }
+fn bound(lists: Lists, recs: [Rec; 16]) -> u64
+    requires lens_len_bound { length lists.lens.now ≤ 16 }
+    requires by_index { (i : ℕ) → i < length lists.lens.now → (scripts_of (lent lists)).len i ≤ 64 }
+    ensures value { result ≡ bound (scripts_of (lent lists.entry)) (take (length lists.entry.lens.now) recs) }
     ensures upper_bound { result ≤ 3120 }
 {
     let mut sum = 0;
-    let mut k = 0;
-    while k < lens.len() {
-        let rec = recs[k];
-        let start = lock_scripts::start_of(lens, k as u64, ops.len() as u64);
-        sum += cost(ops, start, lens[k], rec.at) + 3;
-        k += 1;
+    for (k, len) in lists.lens.iter().enumerate() {
+        let start = lock_scripts::start_of(lists.lens, k as u64, lists.ops.len() as u64);
+        sum += cost(lists.ops, start, *len, recs[k].at) + 3;
     }
     sum
 }
@@ -237,10 +181,8 @@ fn cost(ops: &[u64], start: u64, len: u64, at: u64) -> u64
     ensures { result ≡ cost (words_at ops.now start) len at }
 {
     let mut sum = 0;
-    let mut k = at;
-    while k < len {
+    for k in at..len {
         sum += price(lock_scripts::word_at(ops, start, k));
-        k += 1;
     }
     sum
 }
@@ -249,8 +191,9 @@ fn cost(ops: &[u64], start: u64, len: u64, at: u64) -> u64
 fn price(o: u64) -> u64
     ensures { result ≡ price o }
 {
-    if o == ACQUIRE_READ || o == ACQUIRE_WRITE {
-        return 3;
+    match o {
+        ACQUIRE_READ | ACQUIRE_WRITE => 3,
+        RELEASE_WRITE => 2,
+        _ => 1,
     }
-    if o == RELEASE_WRITE { 2 } else { 1 }
 }

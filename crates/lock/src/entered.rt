@@ -7,7 +7,7 @@ ghost use Rattle.lock.specs.Entered.{left_alone, changed, entered_of};
 
 use super::entry;
 use lock_words::names::{NO_ACCESS, NONE, SCRIPT_FINISHED};
-use machine::{Did, Lock, Place, Rec, Row};
+use machine::{Did, Lists, Lock, Place, Rec, Row};
 
 #[derive(Clone, Copy)]
 pub(crate) struct Entered {
@@ -17,6 +17,7 @@ pub(crate) struct Entered {
     pub(crate) row: Row,
 }
 
+#[tactic(auto, unfolding(crate::specs::Entered::entered_of))]
 // Thread i has a script of the length len, and at its script place the operation op with the value v; so many records are not Idle.
 pub(crate) fn enter(lock: Lock, rec: Rec, i: u64, len: u64, busy: u64, op: u64, v: u64) -> Entered
     requires room { rec.at < len → Room lock rec }
@@ -25,8 +26,7 @@ pub(crate) fn enter(lock: Lock, rec: Rec, i: u64, len: u64, busy: u64, op: u64, 
     ensures { result ≡ entered_of lock rec i len busy op v }
 {
     let others = busy - busy_of(rec);
-    let out = entry::turn(lock, rec, i, len, others, op, v);
-    match out {
+    match entry::turn(lock, rec, i, len, others, op, v) {
         Err(k) => left_alone(lock, rec, i, busy, k),
         Ok(d) => changed(d, i, others),
     }
@@ -34,40 +34,28 @@ pub(crate) fn enter(lock: Lock, rec: Rec, i: u64, len: u64, busy: u64, op: u64, 
 
 // The same, with the operation and its value read from the lists: the thread's script starts at `start`. They are read only where the
 // script is not finished.
-pub(crate) fn enter_at(
-    lock: Lock,
-    rec: Rec,
-    i: u64,
-    len: u64,
-    busy: u64,
-    start: u64,
-    ops: &[u64],
-    vals: &[u64],
-) -> Entered
-    requires room { rec.at < len → Room lock rec }
+pub(crate) fn enter_at(lists: Lists, lock: Lock, rec: Rec, i: u64, busy: u64, start: u64) -> Entered
+    requires i_in_bounds { i < length lists.lens.now }
+    requires room { rec.at < get_or lists.lens.now i 0 → Room lock rec }
     requires rec_bound { busy_of rec ≤ busy }
     requires busy_bound { busy ≤ 16 }
-    requires len_in_bounds { start + len ≤ length ops.now }
-    requires vals_len { length vals.now ≡ length ops.now }
-    ensures { result ≡ entered_of lock rec i len busy (get_or ops.now (start + rec.at) 0) (get_or vals.now (start + rec.at) 0) }
+    requires len_in_bounds { start + get_or lists.lens.now i 0 ≤ length lists.ops.now }
+    requires vals_len { length lists.vals.now ≡ length lists.ops.now }
+    ensures { let at = start + rec.at in result ≡ entered_of lock rec i (get_or lists.entry.lens.now i 0) busy (get_or lists.entry.ops.now at 0) (get_or lists.entry.vals.now at 0) }
 {
+    let len = lists.lens[i as usize];
     if len <= rec.at {
         return left_alone(lock, rec, i, busy, SCRIPT_FINISHED);
     }
     let at = (start + rec.at) as usize;
-    enter(lock, rec, i, len, busy, ops[at], vals[at])
+    enter(lock, rec, i, len, busy, lists.ops[at], lists.vals[at])
 }
 
 // 1 for a record that is not Idle.
 pub(crate) fn busy_of(rec: Rec) -> u64
     ensures { result ≡ busy_of rec }
 {
-    let place = rec.place;
-    if lock_words::is(place, Place::Idle) {
-        0
-    } else {
-        1
-    }
+    u64::from(rec.place != Place::Idle)
 }
 
 // A refused entry leaves lock and record as they are.
@@ -86,13 +74,11 @@ fn changed(d: Did, i: u64, others: u64) -> Entered
     requires { others ≤ 16 }
     ensures { result ≡ changed d i others }
 {
-    let lock = d.lock;
-    let rec = d.rec;
     Entered {
-        lock: lock_words::remade(lock),
-        rec: lock_words::rec_remade(rec),
-        busy: others + busy_of(rec),
-        row: row_of(lock, i, d.access, NONE, d.got),
+        lock: lock_words::remade(d.lock),
+        rec: lock_words::rec_remade(d.rec),
+        busy: others + busy_of(d.rec),
+        row: row_of(d.lock, i, d.access, NONE, d.got),
     }
 }
 
@@ -100,13 +86,12 @@ fn changed(d: Did, i: u64, others: u64) -> Entered
 pub(crate) fn row_of(lock: Lock, thread: u64, access: u64, answer: u64, got: u64) -> Row
     ensures { result ≡ row_of thread lock access answer got }
 {
-    let rc = lock.rc;
     Row {
         thread,
         access,
         answer,
         got,
-        exc: lock_words::bit(lock.exc),
-        rc: rc.0,
+        exc: u64::from(lock.exc),
+        rc: lock.rc.0,
     }
 }

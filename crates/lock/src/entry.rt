@@ -14,7 +14,15 @@ use machine::{Did, Lock, Place, Rec};
 
 // Thread i has the record rec and a script of the length len, at its script place the operation op with the value v; of the other
 // records so many are not Idle.
-pub(crate) fn turn(lock: Lock, rec: Rec, i: u64, len: u64, others: u64, op: u64, v: u64) -> Result<Did, u64>
+pub(crate) fn turn(
+    lock: Lock,
+    rec: Rec,
+    i: u64,
+    len: u64,
+    others: u64,
+    op: u64,
+    v: u64,
+) -> Result<Did, u64>
     requires { rec.at < len → Room lock rec }
     ensures { result ≡ turn_of lock rec i len others op v }
 {
@@ -27,17 +35,17 @@ pub(crate) fn turn(lock: Lock, rec: Rec, i: u64, len: u64, others: u64, op: u64,
 }
 
 // The number of the first refusal that applies.
+#[tactic(auto, unfolding(crate::specs::Turn::turn_refusal, machine::specs::Refusals::lowest))]
 fn refusal(lock: Lock, rec: Rec, i: u64, len: u64, others: u64, op: u64, v: u64) -> u64
     ensures { result ≡ turn_refusal lock rec i len others op v }
 {
-    let place = rec.place;
     if len <= rec.at {
         return SCRIPT_FINISHED;
     }
     if gone(lock, i) {
         return LOCK_GONE;
     }
-    if !fits(place, op) {
+    if !fits(rec.place, op) {
         return DOES_NOT_FIT;
     }
     if others_are_busy(lock, i, others, op) {
@@ -52,50 +60,32 @@ fn refusal(lock: Lock, rec: Rec, i: u64, len: u64, others: u64, op: u64, v: u64)
 fn gone(lock: Lock, i: u64) -> bool
     ensures { result ≡ gone lock i }
 {
-    let mover = lock.mover;
-    lock.finished || !lock_words::may_go(mover, i)
+    lock.finished || !lock_words::may_go(lock.mover, i)
 }
 
 fn others_are_busy(lock: Lock, i: u64, others: u64, op: u64) -> bool
     ensures { result ≡ others_are_busy lock i others op }
 {
-    let mover = lock.mover;
-    op == INTO_INNER && (!lock_words::begun(mover, i) && 0 < others)
+    op == INTO_INNER && !lock_words::begun(lock.mover, i) && 0 < others
 }
 
 fn forbidden(lock: Lock, rec: Rec, op: u64, v: u64) -> bool
     ensures { result ≡ forbidden lock rec op v }
 {
-    let place = rec.place;
-    let pred = lock.pred;
-    lock_words::is(place, Place::Writing) && (op == RELEASE_WRITE && !pred::permits(pred, v))
+    rec.place == Place::Writing && op == RELEASE_WRITE && !pred::permits(lock.pred, v)
 }
 
 // Which operations fit which place.
+#[tactic(auto, unfolding(machine::specs::Step::fits))]
 fn fits(place: Place, op: u64) -> bool
     ensures { result ≡ fits place op }
 {
     match place {
-        Place::Idle => one_of(op, ACQUIRE_READ, ACQUIRE_WRITE, INTO_INNER),
-        Place::ReadTry => op == ACQUIRE_READ,
-        Place::ReadCheck => op == ACQUIRE_READ,
-        Place::ReadBack => op == ACQUIRE_READ,
-        Place::Reading => one_of(op, BORROWS, RELEASE_READ, DROP_HANDLE),
-        Place::WriteWait => either(op, ACQUIRE_WRITE, INTO_INNER),
-        Place::WriteTake => either(op, ACQUIRE_WRITE, INTO_INNER),
-        Place::Writing => either(op, RELEASE_WRITE, DROP_HANDLE),
+        Place::Idle => matches!(op, ACQUIRE_READ | ACQUIRE_WRITE | INTO_INNER),
+        Place::ReadTry | Place::ReadCheck | Place::ReadBack => op == ACQUIRE_READ,
+        Place::Reading => matches!(op, BORROWS | RELEASE_READ | DROP_HANDLE),
+        Place::WriteWait | Place::WriteTake => matches!(op, ACQUIRE_WRITE | INTO_INNER),
+        Place::Writing => matches!(op, RELEASE_WRITE | DROP_HANDLE),
         Place::WritePut => op == RELEASE_WRITE,
     }
-}
-
-fn one_of(op: u64, a: u64, b: u64, c: u64) -> bool
-    ensures { result ≡ (eqb op a || (eqb op b || eqb op c)) }
-{
-    op == a || either(op, b, c)
-}
-
-fn either(op: u64, a: u64, b: u64) -> bool
-    ensures { result ≡ (eqb op a || eqb op b) }
-{
-    op == a || op == b
 }

@@ -1,29 +1,22 @@
 // The refusals that run and drain have in common: 5, 6, 7 and 10.
 ghost use Rattle.std.specs.Prelude.{◌≡◌, ◌||◌, not, eqb, ltb, take};
 ghost use Rattle.machine.specs.Names.{most_threads};
-ghost use Rattle.machine.specs.Lists.{lists, beside};
+ghost use Rattle.machine.specs.Lists.{lent, beside};
 ghost use Rattle.lock.specs.ByValue.{run_refusal_of};
 
 use lock_sound::sound;
 use lock_words::names::{MOST_THREADS, NONE, UNSOUND};
-use machine::{Lock, Rec, Refusal};
+use machine::{Lists, Lock, Rec, Refusal};
 
 // 5, 6 and 7 are the lists'. 10 is a thread count of 0 or above 16, or a state that is not sound.
-pub(crate) fn refused(
-    lens: &[u64],
-    ops: &[u64],
-    vals: &[u64],
-    lock: Lock,
-    recs: [Rec; 16],
-    count: u64,
-) -> Refusal
-    ensures { let s = lists lens.now ops.now vals.now in result ≡ beside s (run_refusal_of s count lock (take count recs)) }
+pub(crate) fn refused(lists: Lists, lock: Lock, recs: [Rec; 16], count: u64) -> Refusal
+    ensures { let s = lent lists.entry in result ≡ beside s (run_refusal_of s count lock (take count recs)) }
 {
-    let why = lock_scripts::refused(lens, ops, vals, count);
+    let why = lock_scripts::refused(lists, count);
     if why.number != NONE {
         return why;
     }
-    if some_and_few(lens.len() as u64) && sound::is_sound(lens, ops, vals, lock, recs, count) {
+    if some_and_few(lists.lens.len() as u64) && sound::is_sound(lists, lock, recs, count) {
         return why;
     }
     Refusal {

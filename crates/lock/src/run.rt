@@ -2,13 +2,13 @@
 ghost use Rattle.std.specs.Prelude.{ℕ, ◌*◌, ◌<◌, ◌≤◌, min, ◌≡◌, eqb, length, take, get_or};
 ghost use Rattle.machine.specs.Words.{bit};
 ghost use Rattle.machine.specs.Step.{busy};
-ghost use Rattle.machine.specs.Lists.{lists, start};
+ghost use Rattle.machine.specs.Lists.{lent, start};
 ghost use Rattle.lock.specs.ByValue.{run_of};
 ghost use Rattle.lock.specs.Run.{ran_of, ready_of, Ready, rest_of, rest_trace};
 
 use super::{entered, refused, trace};
 use lock_words::names::{NO_ACCESS, NO_THREAD, NONE};
-use machine::{Lock, ROW_WORDS, Rec, Refusal};
+use machine::{Lists, Lock, Place, ROW_WORDS, Rec, Refusal};
 
 // What a run returns: the refusal, whose number is 0 for none; n; the number of rows with answer 0; the lock and the records as they
 // are left.
@@ -23,9 +23,7 @@ pub struct RunReturn {
 
 // The records are the first `count` of the array. Rows go into the trace list from its start.
 pub fn run(
-    lens: &[u64],
-    ops: &[u64],
-    vals: &[u64],
+    lists: Lists,
     lock: Lock,
     recs: [Rec; 16],
     count: u64,
@@ -33,10 +31,10 @@ pub fn run(
     budget: u64,
     trace: &mut [u64],
 ) -> RunReturn
-    ensures value { result ≡ ran_of count recs (run_of (lists lens.now ops.now vals.now) count lock recs schedule.now budget trace.old) }
-    ensures trace_after { trace.new ≡ (run_of (lists lens.now ops.now vals.now) count lock recs schedule.now budget trace.old).trace }
+    ensures value { result ≡ ran_of count recs (run_of (lent lists.entry) count lock recs schedule.now budget trace.old) }
+    ensures trace_after { trace.new ≡ (run_of (lent lists.entry) count lock recs schedule.now budget trace.old).trace }
 {
-    let why = refused::refused(lens, ops, vals, lock, recs, count);
+    let why = refused::refused(lists, lock, recs, count);
     if why.number != NONE {
         return RunReturn {
             refusal: why,
@@ -47,15 +45,13 @@ pub fn run(
         };
     }
     let room = (trace.len() / ROW_WORDS) as u64;
-    let n = lock_words::smaller(budget, lock_words::smaller(schedule.len() as u64, room));
-    run_ready(lens, ops, vals, lock, recs, schedule, n, trace)
+    let n = budget.min((schedule.len() as u64).min(room));
+    run_ready(lists, lock, recs, schedule, n, trace)
 }
 
 // A later piece: the first `used` rows of the trace list stay, and this piece's rows come after them.
 pub fn run_rest(
-    lens: &[u64],
-    ops: &[u64],
-    vals: &[u64],
+    lists: Lists,
     lock: Lock,
     recs: [Rec; 16],
     count: u64,
@@ -64,14 +60,12 @@ pub fn run_rest(
     used: u64,
     trace: &mut [u64],
 ) -> RunReturn
-    ensures value { result ≡ ran_of count recs (rest_of (lists lens.now ops.now vals.now) count lock recs schedule.now budget used trace.old) }
-    ensures trace_after { trace.new ≡ rest_trace (lists lens.now ops.now vals.now) count lock recs schedule.now budget used trace.old }
+    ensures value { result ≡ ran_of count recs (rest_of (lent lists.entry) count lock recs schedule.now budget used trace.old) }
+    ensures trace_after { trace.new ≡ rest_trace (lent lists.entry) count lock recs schedule.now budget used trace.old }
 {
     let from = end_of(used, trace.len());
     run(
-        lens,
-        ops,
-        vals,
+        lists,
         lock,
         recs,
         count,
@@ -95,45 +89,38 @@ fn end_of(rows: u64, most: usize) -> usize
 // The entries, where nothing is refused. Each thread's start, and how many records are not Idle, are kept, so that an entry costs the
 // same whatever the scripts are.
 fn run_ready(
-    lens: &[u64],
-    ops: &[u64],
-    vals: &[u64],
+    lists: Lists,
     lock: Lock,
     recs: [Rec; 16],
     schedule: &[u64],
     n: u64,
     trace: &mut [u64],
 ) -> RunReturn
-    requires ready { Ready (lists lens.now ops.now vals.now) lock recs }
+    requires ready { Ready (lent lists) lock recs }
     requires n_in_bounds { n ≤ length schedule.now }
     requires n_in_bounds_2 { 6 * n ≤ length trace.old }
-    ensures value { result ≡ ran_of (length lens.now) recs (ready_of (lists lens.now ops.now vals.now) lock recs schedule.now n trace.old) }
-    ensures trace_after { trace.new ≡ (ready_of (lists lens.now ops.now vals.now) lock recs schedule.now n trace.old).trace }
+    ensures value { result ≡ ran_of (length lists.entry.lens.now) recs (ready_of (lent lists.entry) lock recs schedule.now n trace.old) }
+    ensures trace_after { trace.new ≡ (ready_of (lent lists.entry) lock recs schedule.now n trace.old).trace }
 {
-    let starts = starts_of(lens, ops.len() as u64);
-    let count = lens.len() as u64;
+    let starts = starts_of(lists.lens, lists.ops.len() as u64);
+    let count = lists.lens.len() as u64;
     let mut l = lock;
     let mut rs = recs;
     let mut busy = busy_among(recs, count);
     let mut done = 0;
-    let mut k = 0;
-    while k < n {
+    for k in 0..n {
         let t = schedule[k as usize];
         let mut row = entered::row_of(l, t, NO_ACCESS, NO_THREAD, 0);
         if t < count {
             let i = t as usize;
-            let r = rs[i];
-            let e = entered::enter_at(l, r, t, lens[i], busy, starts[i], ops, vals);
-            let after = e.lock;
-            let rec = e.rec;
-            l = after;
-            rs[i] = rec;
+            let e = entered::enter_at(lists, l, rs[i], t, busy, starts[i]);
+            l = e.lock;
+            rs[i] = e.rec;
             busy = e.busy;
             row = e.row;
         }
         trace::put_row(trace, ROW_WORDS * k as usize, row);
-        done += one_if_zero(row.answer);
-        k += 1;
+        done += u64::from(row.answer == NONE);
     }
     RunReturn {
         refusal: none(),
@@ -151,35 +138,23 @@ fn starts_of(lens: &[u64], most: u64) -> [u64; 16]
 {
     let mut starts = [0; 16];
     let mut sum = 0;
-    let mut t = 0;
-    while t < lens.len() {
+    for (t, len) in lens.iter().enumerate() {
         starts[t] = sum;
-        sum += lock_words::smaller(lens[t], most - sum);
-        t += 1;
+        sum += (most - sum).min(*len);
     }
     starts
 }
 
 // How many of the first `count` records are not Idle.
+#[tactic(auto, using(crate::proofs::Busy::counted))]
 pub(crate) fn busy_among(recs: [Rec; 16], count: u64) -> u64
     requires { count ≤ 16 }
     ensures { result ≡ busy (take count recs) }
 {
-    let mut busy = 0;
-    let mut k = 0;
-    while k < count {
-        let r = recs[k as usize];
-        busy += entered::busy_of(r);
-        k += 1;
-    }
-    busy
-}
-
-fn one_if_zero(n: u64) -> u64
-    ensures value { result ≡ bit (eqb n 0) }
-    ensures upper_bound { result ≤ 1 }
-{
-    if n == NONE { 1 } else { 0 }
+    recs[..count as usize]
+        .iter()
+        .filter(|rec| rec.place != Place::Idle)
+        .count() as u64
 }
 
 fn none() -> Refusal

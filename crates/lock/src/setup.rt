@@ -1,7 +1,7 @@
 // Setup: the refusals 1 to 7, and the state that it leaves.
 ghost use Rattle.std.specs.Prelude.{◌≤◌, ◌≡◌, ◌||◌, eqb, ltb};
 ghost use Rattle.machine.specs.Refusals.{lowest};
-ghost use Rattle.machine.specs.Lists.{lists, beside};
+ghost use Rattle.machine.specs.Lists.{lent, beside};
 ghost use Rattle.machine.specs.Setup.{fresh, setup_refusal};
 ghost use Rattle.lock.specs.ByValue.{put_back};
 ghost use Rattle.lock.specs.Setup.{own_checks, begun_of};
@@ -12,7 +12,7 @@ use cell::pred::Pred;
 use lock_words::names::{
     BAD_PREDICATE, FIRST_VALUE, MOST_THREADS, NONE, THREAD_COUNT, TOP_IS_ZERO,
 };
-use machine::{Lock, Place, Rec, Refusal};
+use machine::{Lists, Lock, Place, Rec, Refusal};
 
 // What setup answers, and the records as it leaves them.
 #[derive(Clone, Copy)]
@@ -22,19 +22,10 @@ pub struct Begun {
 }
 
 // The records are the first `count` of the array; the others stay as they are.
-pub fn setup(
-    pred: Pred,
-    top: Count,
-    first: u64,
-    lens: &[u64],
-    ops: &[u64],
-    vals: &[u64],
-    recs: [Rec; 16],
-    count: u64,
-) -> Begun
-    ensures { result ≡ begun_of pred top.0 first (lists lens.now ops.now vals.now) count recs }
+pub fn setup(pred: Pred, top: Count, first: u64, lists: Lists, recs: [Rec; 16], count: u64) -> Begun
+    ensures { result ≡ begun_of pred top.0 first (lent lists.entry) count recs }
 {
-    let why = refused(pred, top, first, lens, ops, vals, count);
+    let why = refused(pred, top, first, lists, count);
     if why.number == NONE {
         Begun {
             start: Ok(lock_words::unused(pred, top, first)),
@@ -49,20 +40,12 @@ pub fn setup(
 }
 
 // 1 to 4 are setup's own, 5 to 7 the lists'.
-fn refused(
-    pred: Pred,
-    top: Count,
-    first: u64,
-    lens: &[u64],
-    ops: &[u64],
-    vals: &[u64],
-    count: u64,
-) -> Refusal
-    ensures { let s = lists lens.now ops.now vals.now in result ≡ beside s (setup_refusal pred top.0 first s count) }
+fn refused(pred: Pred, top: Count, first: u64, lists: Lists, count: u64) -> Refusal
+    ensures { let s = lent lists.entry in result ≡ beside s (setup_refusal pred top.0 first s count) }
 {
-    let k = own_refusal(pred, top, first, lens.len() as u64);
+    let k = own_refusal(pred, top, first, lists.lens.len() as u64);
     if k == NONE {
-        lock_scripts::refused(lens, ops, vals, count)
+        lock_scripts::refused(lists, count)
     } else {
         Refusal {
             number: k,
@@ -73,6 +56,7 @@ fn refused(
 }
 
 // The number of the first of 1 to 4 that applies.
+#[tactic(auto, unfolding(machine::specs::Refusals::lowest))]
 fn own_refusal(pred: Pred, top: Count, first: u64, threads: u64) -> u64
     ensures { result ≡ lowest (own_checks pred top.0 first threads) }
 {
@@ -97,10 +81,6 @@ fn begin(recs: [Rec; 16], n: u64) -> [Rec; 16]
     ensures { result ≡ put_back n recs (fresh n) }
 {
     let mut rs = recs;
-    let mut k = 0;
-    while k < n {
-        rs[k as usize] = lock_words::plain(0, Place::Idle);
-        k += 1;
-    }
+    rs[..n as usize].fill(lock_words::plain(0, Place::Idle));
     rs
 }

@@ -1,6 +1,6 @@
 // The table of places and accesses: what an accepted entry does, and each outcome by the one access that it makes. Of a load and a
 // borrow only the answer is used; every other access's count, flag or cell goes into the lock.
-ghost use Rattle.std.specs.Prelude.{ℕ, ◌+◌, ◌<◌, ◌^◌, ◌≡◌};
+ghost use Rattle.std.specs.Prelude.{ℕ, ◌+◌, ◌<◌, ◌^◌, ◌≡◌, None};
 ghost use Rattle.machine.specs.Words.{next};
 ghost use Rattle.machine.specs.Step.{does, load_rc, try_rc, load_exc, back_done, lent, released, try_exc, wait_rc, taken, taken_last, put_done, stored, read_dropped, write_dropped, act};
 ghost use Rattle.lock.specs.Room.{Room};
@@ -14,12 +14,12 @@ use lock_words::names::{
 use machine::{Did, Lock, Place, Rec};
 
 // Thread i has the record rec, the operation op and its value v; the operation fits the place.
+#[tactic(auto, unfolding(machine::specs::Step::act))]
 pub(crate) fn act(i: u64, lock: Lock, rec: Rec, op: u64, v: u64) -> Did
     requires { Room lock rec }
     ensures { result ≡ act i lock rec rec.place op v }
 {
-    let place = rec.place;
-    match place {
+    match rec.place {
         Place::Idle => at_idle(i, lock, rec, op),
         Place::ReadTry => try_rc(lock, rec),
         Place::ReadCheck => load_exc(lock, rec),
@@ -33,32 +33,31 @@ pub(crate) fn act(i: u64, lock: Lock, rec: Rec, op: u64, v: u64) -> Did
 }
 
 // ---- the places with more than one operation; the last one is not asked for
+#[tactic(auto, unfolding(machine::specs::Step::act))]
 fn at_idle(i: u64, lock: Lock, rec: Rec, op: u64) -> Did
     ensures { (v : ℕ) → result ≡ act i lock rec Place.Idle op v }
 {
-    if op == ACQUIRE_READ {
-        load_rc(lock, rec)
-    } else if op == ACQUIRE_WRITE {
-        try_exc(lock, rec)
-    } else {
-        try_exc(lock_words::with_mover(lock, Some(i)), rec)
+    match op {
+        ACQUIRE_READ => load_rc(lock, rec),
+        ACQUIRE_WRITE => try_exc(lock, rec),
+        _ => try_exc(lock_words::with_mover(lock, Some(i)), rec),
     }
 }
 
+#[tactic(auto, unfolding(machine::specs::Step::act))]
 fn at_reading(lock: Lock, rec: Rec, op: u64) -> Did
     requires room { Room lock rec }
     requires place_value { rec.place ≡ Place.Reading }
     ensures { (i v : ℕ) → result ≡ act i lock rec Place.Reading op v }
 {
-    if op == BORROWS {
-        lend(lock, rec)
-    } else if op == RELEASE_READ {
-        release(lock, rec)
-    } else {
-        drop_read(lock, rec)
+    match op {
+        BORROWS => lend(lock, rec),
+        RELEASE_READ => release(lock, rec),
+        _ => drop_read(lock, rec),
     }
 }
 
+#[tactic(auto, unfolding(machine::specs::Step::act))]
 fn at_take(lock: Lock, rec: Rec, op: u64) -> Did
     requires { rec.at + 1 < 2 ^ 64 }
     ensures { (i v : ℕ) → result ≡ act i lock rec Place.WriteTake op v }
@@ -70,6 +69,7 @@ fn at_take(lock: Lock, rec: Rec, op: u64) -> Did
     }
 }
 
+#[tactic(auto, unfolding(machine::specs::Step::act))]
 fn at_writing(lock: Lock, rec: Rec, op: u64, v: u64) -> Did
     requires room { Room lock rec }
     requires place_value { rec.place ≡ Place.Writing }
@@ -86,11 +86,8 @@ fn at_writing(lock: Lock, rec: Rec, op: u64, v: u64) -> Did
 fn load_rc(lock: Lock, rec: Rec) -> Did
     ensures { result ≡ load_rc lock rec }
 {
-    let rc = lock.rc;
-    let top = lock.top;
-    let x = lock_access::load_count(rc);
-    let old = x.old;
-    if old.0 < top.0 {
+    let old = lock_access::load_count(lock.rc).old;
+    if old.0 < lock.top.0 {
         does(
             lock,
             lock_words::rec_at(rec.at, Place::ReadTry, old, 0),
@@ -106,21 +103,18 @@ fn try_rc(lock: Lock, rec: Rec) -> Did
     requires { rec.seen.0 + 1 < 2 ^ 64 }
     ensures { result ≡ try_rc lock rec }
 {
-    let rc = lock.rc;
     let seen = rec.seen;
-    let x = lock_access::exchange_count(rc, seen, Count(seen.0 + 1));
-    let old = x.old;
-    let left = x.left;
-    let after = lock_words::with_rc(lock, left);
+    let x = lock_access::exchange_count(lock.rc, seen, Count(seen.0 + 1));
+    let after = lock_words::with_rc(lock, x.left);
     if x.done {
         does(
             after,
             lock_words::goes(rec, Place::ReadCheck),
             EXCHANGES_RC,
-            old.0,
+            x.old.0,
         )
     } else {
-        does(after, lock_words::goes(rec, Place::Idle), FAILS_RC, old.0)
+        does(after, lock_words::goes(rec, Place::Idle), FAILS_RC, x.old.0)
     }
 }
 
@@ -139,15 +133,12 @@ fn load_exc(lock: Lock, rec: Rec) -> Did
 fn give_back(lock: Lock, rec: Rec) -> Did
     ensures { result ≡ back_done lock rec }
 {
-    let rc = lock.rc;
-    let x = lock_access::lower_count(rc);
-    let old = x.old;
-    let left = x.left;
+    let x = lock_access::lower_count(lock.rc);
     does(
-        lock_words::with_rc(lock, left),
+        lock_words::with_rc(lock, x.left),
         lock_words::goes(rec, Place::Idle),
         GIVES_BACK,
-        old.0,
+        x.old.0,
     )
 }
 
@@ -155,8 +146,7 @@ fn lend(lock: Lock, rec: Rec) -> Did
     requires { rec.at + 1 < 2 ^ 64 }
     ensures { result ≡ lent lock rec }
 {
-    let cell = lock.cell;
-    let x = lock_access::borrow_cell(cell);
+    let x = lock_access::borrow_cell(lock.cell);
     does(lock, next(rec, Place::Reading), BORROWS_CELL, x.got)
 }
 
@@ -164,15 +154,12 @@ fn release(lock: Lock, rec: Rec) -> Did
     requires { rec.at + 1 < 2 ^ 64 }
     ensures { result ≡ released lock rec }
 {
-    let rc = lock.rc;
-    let x = lock_access::lower_count(rc);
-    let old = x.old;
-    let left = x.left;
+    let x = lock_access::lower_count(lock.rc);
     does(
-        lock_words::with_rc(lock, left),
+        lock_words::with_rc(lock, x.left),
         next(rec, Place::Idle),
         RELEASES_RC,
-        old.0,
+        x.old.0,
     )
 }
 
@@ -181,9 +168,8 @@ fn drop_read(lock: Lock, rec: Rec) -> Did
     requires reads_bound { lock.reads.0 + 1 < 2 ^ 64 }
     ensures { result ≡ read_dropped lock rec }
 {
-    let reads = lock.reads;
     does(
-        lock_words::with_reads(lock, Count(reads.0 + 1)),
+        lock_words::with_reads(lock, Count(lock.reads.0 + 1)),
         next(rec, Place::Idle),
         DROPS_HANDLE,
         NOTHING,
@@ -211,35 +197,22 @@ fn try_exc(lock: Lock, rec: Rec) -> Did
 fn wait_rc(lock: Lock, rec: Rec) -> Did
     ensures { result ≡ wait_rc lock rec }
 {
-    let rc = lock.rc;
-    let x = lock_access::load_count(rc);
-    let old = x.old;
-    if old.0 == 0 {
-        does(
-            lock,
-            lock_words::goes(rec, Place::WriteTake),
-            WAITS_RC,
-            old.0,
-        )
+    let old = lock_access::load_count(lock.rc).old;
+    let place = if old.0 == 0 {
+        Place::WriteTake
     } else {
-        does(
-            lock,
-            lock_words::goes(rec, Place::WriteWait),
-            WAITS_RC,
-            old.0,
-        )
-    }
+        Place::WriteWait
+    };
+    does(lock, lock_words::goes(rec, place), WAITS_RC, old.0)
 }
 
 fn take(lock: Lock, rec: Rec) -> Did
     requires { rec.at + 1 < 2 ^ 64 }
     ensures { result ≡ taken lock rec }
 {
-    let cell = lock.cell;
-    let x = lock_access::take_cell(cell);
-    let left = x.left;
+    let x = lock_access::take_cell(lock.cell);
     does(
-        lock_words::with_cell(lock, left),
+        lock_words::with_cell(lock, x.left),
         lock_words::rec_at(rec.at + 1, Place::Writing, Count(0), x.got),
         TAKES_CELL,
         x.got,
@@ -250,11 +223,9 @@ fn take_last(lock: Lock, rec: Rec) -> Did
     requires { rec.at + 1 < 2 ^ 64 }
     ensures { result ≡ taken_last lock rec }
 {
-    let cell = lock.cell;
-    let x = lock_access::take_cell(cell);
-    let left = x.left;
+    let x = lock_access::take_cell(lock.cell);
     does(
-        lock_words::with_end(lock, left),
+        lock_words::with_end(lock, x.left),
         next(rec, Place::Idle),
         TAKES_CELL,
         x.got,
@@ -262,14 +233,12 @@ fn take_last(lock: Lock, rec: Rec) -> Did
 }
 
 fn put(lock: Lock, rec: Rec, v: u64) -> Did
-    requires { lock.cell ≡ Empty }
+    requires { lock.cell ≡ None }
     ensures { result ≡ put_done lock rec v }
 {
-    let cell = lock.cell;
-    let x = lock_access::put_cell(cell, v);
-    let left = x.left;
+    let x = lock_access::put_cell(lock.cell, v);
     does(
-        lock_words::with_cell(lock, left),
+        lock_words::with_cell(lock, x.left),
         lock_words::goes(rec, Place::WritePut),
         PUTS_CELL,
         v,
@@ -294,9 +263,8 @@ fn drop_write(lock: Lock, rec: Rec) -> Did
     requires writes_bound { lock.writes.0 + 1 < 2 ^ 64 }
     ensures { result ≡ write_dropped lock rec }
 {
-    let writes = lock.writes;
     does(
-        lock_words::with_writes(lock, Count(writes.0 + 1)),
+        lock_words::with_writes(lock, Count(lock.writes.0 + 1)),
         next(rec, Place::Idle),
         DROPS_HANDLE,
         NOTHING,

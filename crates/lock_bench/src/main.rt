@@ -5,7 +5,7 @@
 use atomic::Count;
 use cell::pred::Pred;
 use lock::run;
-use machine::{Lock, Place, Rec};
+use machine::{Lists, Lock, Place, Rec};
 use std::io::{Read, Stdin};
 
 // Nobody is served in it, and the state after it is the state before it.
@@ -104,13 +104,16 @@ fn rounds(state: State, n: usize, schedule: &[u64], trace: &mut [u64]) -> State 
 }
 
 fn round(state: State, schedule: &[u64], trace: &mut [u64]) -> State {
-    let lock = state.lock;
-    let recs = state.recs;
-    let ran = run::run(&LENS, &OPS, &VALS, lock, recs, 3, schedule, u64::MAX, trace);
-    let lock = ran.lock;
+    let lists = Lists {
+        lens: &LENS,
+        ops: &OPS,
+        vals: &VALS,
+    };
+    let State { lock, recs, .. } = state;
+    let ran = run::run(lists, lock, recs, 3, schedule, u64::MAX, trace);
     let recs = ran.recs;
     State {
-        lock,
+        lock: ran.lock,
         recs,
         entries: std::num::wrapping_add_u64(state.entries, ran.n),
         accepted: std::num::wrapping_add_u64(state.accepted, ran.done),

@@ -1,6 +1,6 @@
 // The first `count` records of an array, at most sixteen, lent to the functions of `lock_lent`, and the array as it comes back.
 ghost use Rattle.std.specs.Prelude.{min, ◌≡◌, length, take};
-ghost use Rattle.machine.specs.Lists.{lists};
+ghost use Rattle.machine.specs.Lists.{lent};
 ghost use Rattle.machine.specs.Setup.{setup, setup_recs};
 ghost use Rattle.machine.specs.Run.{run_lent};
 ghost use Rattle.machine.specs.Drain.{drain_lent};
@@ -14,30 +14,26 @@ use lock::setup::Begun;
 use lock_lent::drain::DrainedWith;
 use lock_lent::run::RanWith;
 use lock_lent::{drain, exchange, run, setup};
-use machine::{Lock, Rec};
+use machine::{Lists, Lock, Rec};
 
 pub(crate) fn setup(
     pred: Pred,
     top: Count,
     first: u64,
-    lens: &[u64],
-    ops: &[u64],
-    vals: &[u64],
+    lists: Lists,
     recs: [Rec; 16],
     count: usize,
 ) -> Begun
-    ensures { let l = take (min count 16) recs in let s = lists lens.now ops.now vals.now in result ≡ begun_with (min count 16) recs (setup pred top.0 first s (length l)) (setup_recs pred top.0 first s l) }
+    ensures { let l = take (min count 16) recs in let s = lent lists.entry in result ≡ begun_with (min count 16) recs (setup pred top.0 first s (length l)) (setup_recs pred top.0 first s l) }
 {
     let n = exchange::at_most_sixteen(count);
     let mut rs = recs;
-    let start = setup::setup(pred, top, first, lens, ops, vals, &mut rs[..n]);
+    let start = setup::setup(pred, top, first, lists, &mut rs[..n]);
     Begun { start, recs: rs }
 }
 
 pub(crate) fn run(
-    lens: &[u64],
-    ops: &[u64],
-    vals: &[u64],
+    lists: Lists,
     lock: Lock,
     recs: [Rec; 16],
     count: usize,
@@ -45,19 +41,17 @@ pub(crate) fn run(
     budget: u64,
     trace: &mut [u64],
 ) -> RanWith
-    ensures value { result ≡ ran_with (min count 16) recs (run_lent (lists lens.now ops.now vals.now) lock (take (min count 16) recs) schedule.now budget trace.old) }
-    ensures trace_after { trace.new ≡ (run_lent (lists lens.now ops.now vals.now) lock (take (min count 16) recs) schedule.now budget trace.old).trace }
+    ensures value { result ≡ ran_with (min count 16) recs (run_lent (lent lists.entry) lock (take (min count 16) recs) schedule.now budget trace.old) }
+    ensures trace_after { trace.new ≡ (run_lent (lent lists.entry) lock (take (min count 16) recs) schedule.now budget trace.old).trace }
 {
     let n = exchange::at_most_sixteen(count);
     let mut rs = recs;
-    let ran = run::run(lens, ops, vals, lock, &mut rs[..n], schedule, budget, trace);
+    let ran = run::run(lists, lock, &mut rs[..n], schedule, budget, trace);
     RanWith { ran, recs: rs }
 }
 
 pub(crate) fn run_rest(
-    lens: &[u64],
-    ops: &[u64],
-    vals: &[u64],
+    lists: Lists,
     lock: Lock,
     recs: [Rec; 16],
     count: usize,
@@ -66,15 +60,13 @@ pub(crate) fn run_rest(
     used: u64,
     trace: &mut [u64],
 ) -> RanWith
-    ensures value { result ≡ ran_with (min count 16) recs (rest_lent (lists lens.now ops.now vals.now) lock (take (min count 16) recs) schedule.now budget used trace.old) }
-    ensures trace_after { trace.new ≡ rest_lent_trace (lists lens.now ops.now vals.now) lock (take (min count 16) recs) schedule.now budget used trace.old }
+    ensures value { result ≡ ran_with (min count 16) recs (rest_lent (lent lists.entry) lock (take (min count 16) recs) schedule.now budget used trace.old) }
+    ensures trace_after { trace.new ≡ rest_lent_trace (lent lists.entry) lock (take (min count 16) recs) schedule.now budget used trace.old }
 {
     let n = exchange::at_most_sixteen(count);
     let mut rs = recs;
     let ran = run::run_rest(
-        lens,
-        ops,
-        vals,
+        lists,
         lock,
         &mut rs[..n],
         schedule,
@@ -86,17 +78,15 @@ pub(crate) fn run_rest(
 }
 
 pub(crate) fn drain(
-    lens: &[u64],
-    ops: &[u64],
-    vals: &[u64],
+    lists: Lists,
     lock: Lock,
     recs: [Rec; 16],
     count: usize,
 ) -> DrainedWith
-    ensures { result ≡ drained_with (min count 16) recs (drain_lent (lists lens.now ops.now vals.now) lock (take (min count 16) recs)) }
+    ensures { result ≡ drained_with (min count 16) recs (drain_lent (lent lists.entry) lock (take (min count 16) recs)) }
 {
     let n = exchange::at_most_sixteen(count);
     let mut rs = recs;
-    let drained = drain::drain(lens, ops, vals, lock, &mut rs[..n]);
+    let drained = drain::drain(lists, lock, &mut rs[..n]);
     DrainedWith { drained, recs: rs }
 }

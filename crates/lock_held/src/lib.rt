@@ -3,7 +3,7 @@
 #![tactic(auto)]
 
 ghost use Rattle.std.specs.Prelude.{◌≡◌};
-ghost use Rattle.machine.specs.Lists.{lists};
+ghost use Rattle.machine.specs.Lists.{lent};
 ghost use Rattle.lock.specs.ByValue.{run_of, drain_of};
 ghost use Rattle.lock.specs.Setup.{begun_of};
 ghost use Rattle.lock.specs.Run.{ran_of, rest_of, rest_trace};
@@ -19,7 +19,7 @@ use lock::{drain, run, setup};
 use lock_lent::drain::DrainedWith;
 use lock_lent::run::RanWith;
 use lock_words::names::MOST_THREADS;
-use machine::{Lock, Rec};
+use machine::{Lists, Lock, Rec};
 
 mod front;
 
@@ -27,24 +27,20 @@ pub fn setup(
     pred: Pred,
     top: Count,
     first: u64,
-    lens: &[u64],
-    ops: &[u64],
-    vals: &[u64],
+    lists: Lists,
     recs: [Rec; 16],
     count: u64,
 ) -> Begun
-    ensures { result ≡ begun_of pred top.0 first (lists lens.now ops.now vals.now) count recs }
+    ensures { result ≡ begun_of pred top.0 first (lent lists.entry) count recs }
 {
     if count > MOST_THREADS {
-        return setup::setup(pred, top, first, lens, ops, vals, recs, count);
+        return setup::setup(pred, top, first, lists, recs, count);
     }
-    front::setup(pred, top, first, lens, ops, vals, recs, count as usize)
+    front::setup(pred, top, first, lists, recs, count as usize)
 }
 
 pub fn run(
-    lens: &[u64],
-    ops: &[u64],
-    vals: &[u64],
+    lists: Lists,
     lock: Lock,
     recs: [Rec; 16],
     count: u64,
@@ -52,16 +48,14 @@ pub fn run(
     budget: u64,
     trace: &mut [u64],
 ) -> RunReturn
-    ensures value { result ≡ ran_of count recs (run_of (lists lens.now ops.now vals.now) count lock recs schedule.now budget trace.old) }
-    ensures trace_after { trace.new ≡ (run_of (lists lens.now ops.now vals.now) count lock recs schedule.now budget trace.old).trace }
+    ensures value { result ≡ ran_of count recs (run_of (lent lists.entry) count lock recs schedule.now budget trace.old) }
+    ensures trace_after { trace.new ≡ (run_of (lent lists.entry) count lock recs schedule.now budget trace.old).trace }
 {
     if count > MOST_THREADS {
-        return run::run(lens, ops, vals, lock, recs, count, schedule, budget, trace);
+        return run::run(lists, lock, recs, count, schedule, budget, trace);
     }
     ran_together(front::run(
-        lens,
-        ops,
-        vals,
+        lists,
         lock,
         recs,
         count as usize,
@@ -72,9 +66,7 @@ pub fn run(
 }
 
 pub fn run_rest(
-    lens: &[u64],
-    ops: &[u64],
-    vals: &[u64],
+    lists: Lists,
     lock: Lock,
     recs: [Rec; 16],
     count: u64,
@@ -83,18 +75,16 @@ pub fn run_rest(
     used: u64,
     trace: &mut [u64],
 ) -> RunReturn
-    ensures value { result ≡ ran_of count recs (rest_of (lists lens.now ops.now vals.now) count lock recs schedule.now budget used trace.old) }
-    ensures trace_after { trace.new ≡ rest_trace (lists lens.now ops.now vals.now) count lock recs schedule.now budget used trace.old }
+    ensures value { result ≡ ran_of count recs (rest_of (lent lists.entry) count lock recs schedule.now budget used trace.old) }
+    ensures trace_after { trace.new ≡ rest_trace (lent lists.entry) count lock recs schedule.now budget used trace.old }
 {
     if count > MOST_THREADS {
         return run::run_rest(
-            lens, ops, vals, lock, recs, count, schedule, budget, used, trace,
+            lists, lock, recs, count, schedule, budget, used, trace,
         );
     }
     ran_together(front::run_rest(
-        lens,
-        ops,
-        vals,
+        lists,
         lock,
         recs,
         count as usize,
@@ -106,19 +96,17 @@ pub fn run_rest(
 }
 
 pub fn drain(
-    lens: &[u64],
-    ops: &[u64],
-    vals: &[u64],
+    lists: Lists,
     lock: Lock,
     recs: [Rec; 16],
     count: u64,
 ) -> DrainReturn
-    ensures { result ≡ drained_of count recs (drain_of (lists lens.now ops.now vals.now) count lock recs) }
+    ensures { result ≡ drained_of count recs (drain_of (lent lists.entry) count lock recs) }
 {
     if count > MOST_THREADS {
-        return drain::drain(lens, ops, vals, lock, recs, count);
+        return drain::drain(lists, lock, recs, count);
     }
-    drained_together(front::drain(lens, ops, vals, lock, recs, count as usize))
+    drained_together(front::drain(lists, lock, recs, count as usize))
 }
 
 // The answer together with the records.

@@ -1,13 +1,13 @@
 // Drain over a lent list of records.
 ghost use Rattle.std.specs.Prelude.{◌≡◌};
-ghost use Rattle.machine.specs.Lists.{lists};
+ghost use Rattle.machine.specs.Lists.{lent};
 ghost use Rattle.machine.specs.Drain.{drain_lent};
 ghost use Rattle.lock.specs.ByValue.{drain_of};
 ghost use Rattle.lock_lent.specs.Drain.{drained_of};
 ghost use Rattle.lock_lent.specs.Taken.{drained_apart, drained_with};
 
 use super::exchange;
-use machine::{Lock, Rec, Refusal};
+use machine::{Lists, Lock, Rec, Refusal};
 
 // What a drain returns: the refusal, whose number is 0 for none; how many entries it made; the lock as it is left.
 #[derive(Clone, Copy)]
@@ -26,33 +26,29 @@ pub struct DrainedWith {
 
 // The records are changed in their list.
 pub fn drain(
-    lens: &[u64],
-    ops: &[u64],
-    vals: &[u64],
+    lists: Lists,
     lock: Lock,
     recs: &mut [Rec],
 ) -> LentDrainReturn
-    ensures value { result ≡ drained_of (drain_lent (lists lens.now ops.now vals.now) lock recs.old) }
-    ensures recs_after { recs.new ≡ (drain_lent (lists lens.now ops.now vals.now) lock recs.old).recs }
+    ensures value { result ≡ drained_of (drain_lent (lent lists.entry) lock recs.old) }
+    ensures recs_after { recs.new ≡ (drain_lent (lent lists.entry) lock recs.old).recs }
 {
     let blank = exchange::blank();
     let taken = exchange::exchange(recs, blank);
-    let left = drain_taken(lens, ops, vals, lock, taken, recs.len() as u64);
+    let left = drain_taken(lists, lock, taken, recs.len() as u64);
     exchange::exchange(recs, left.recs);
     left.drained
 }
 
 fn drain_taken(
-    lens: &[u64],
-    ops: &[u64],
-    vals: &[u64],
+    lists: Lists,
     lock: Lock,
     recs: [Rec; 16],
     count: u64,
 ) -> DrainedWith
-    ensures { result ≡ drained_with count recs (drain_of (lists lens.now ops.now vals.now) count lock recs) }
+    ensures { result ≡ drained_with count recs (drain_of (lent lists.entry) count lock recs) }
 {
-    let left = lock::drain::drain(lens, ops, vals, lock, recs, count);
+    let left = lock::drain::drain(lists, lock, recs, count);
     apart(left)
 }
 

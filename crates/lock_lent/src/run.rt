@@ -1,6 +1,6 @@
 // Run over a lent list of records: whole, a later piece, and one entry.
 ghost use Rattle.std.specs.Prelude.{◌≡◌, [], ◌∷◌};
-ghost use Rattle.machine.specs.Lists.{lists};
+ghost use Rattle.machine.specs.Lists.{lent};
 ghost use Rattle.machine.specs.Run.{run_lent};
 ghost use Rattle.lock.specs.ByValue.{run_of};
 ghost use Rattle.lock.specs.Run.{rest_of, rest_trace};
@@ -8,7 +8,7 @@ ghost use Rattle.lock_lent.specs.Run.{ran_of, rest_lent, rest_lent_trace, step_l
 ghost use Rattle.lock_lent.specs.Taken.{ran_apart, ran_with};
 
 use super::exchange;
-use machine::{Lock, Rec, Refusal};
+use machine::{Lists, Lock, Rec, Refusal};
 
 // What a run returns: the refusal, whose number is 0 for none; n; the number of rows with answer 0; the lock as it is left.
 #[derive(Clone, Copy)]
@@ -28,25 +28,21 @@ pub struct RanWith {
 
 // The records are changed in their list. Rows go into the trace list from its start.
 pub fn run(
-    lens: &[u64],
-    ops: &[u64],
-    vals: &[u64],
+    lists: Lists,
     lock: Lock,
     recs: &mut [Rec],
     schedule: &[u64],
     budget: u64,
     trace: &mut [u64],
 ) -> LentRunReturn
-    ensures value { result ≡ ran_of (run_lent (lists lens.now ops.now vals.now) lock recs.old schedule.now budget trace.old) }
-    ensures recs_after { recs.new ≡ (run_lent (lists lens.now ops.now vals.now) lock recs.old schedule.now budget trace.old).recs }
-    ensures trace_after { trace.new ≡ (run_lent (lists lens.now ops.now vals.now) lock recs.old schedule.now budget trace.old).trace }
+    ensures value { result ≡ ran_of (run_lent (lent lists.entry) lock recs.old schedule.now budget trace.old) }
+    ensures recs_after { recs.new ≡ (run_lent (lent lists.entry) lock recs.old schedule.now budget trace.old).recs }
+    ensures trace_after { trace.new ≡ (run_lent (lent lists.entry) lock recs.old schedule.now budget trace.old).trace }
 {
     let blank = exchange::blank();
     let taken = exchange::exchange(recs, blank);
     let left = run_taken(
-        lens,
-        ops,
-        vals,
+        lists,
         lock,
         taken,
         recs.len() as u64,
@@ -59,9 +55,7 @@ pub fn run(
 }
 
 fn run_taken(
-    lens: &[u64],
-    ops: &[u64],
-    vals: &[u64],
+    lists: Lists,
     lock: Lock,
     recs: [Rec; 16],
     count: u64,
@@ -69,18 +63,16 @@ fn run_taken(
     budget: u64,
     trace: &mut [u64],
 ) -> RanWith
-    ensures value { result ≡ ran_with count recs (run_of (lists lens.now ops.now vals.now) count lock recs schedule.now budget trace.old) }
-    ensures trace_after { trace.new ≡ (run_of (lists lens.now ops.now vals.now) count lock recs schedule.now budget trace.old).trace }
+    ensures value { result ≡ ran_with count recs (run_of (lent lists.entry) count lock recs schedule.now budget trace.old) }
+    ensures trace_after { trace.new ≡ (run_of (lent lists.entry) count lock recs schedule.now budget trace.old).trace }
 {
-    let left = lock::run::run(lens, ops, vals, lock, recs, count, schedule, budget, trace);
+    let left = lock::run::run(lists, lock, recs, count, schedule, budget, trace);
     apart(left)
 }
 
 // A later piece: the first `used` rows of the trace list stay, and this piece's rows go into the tail of it, after them.
 pub fn run_rest(
-    lens: &[u64],
-    ops: &[u64],
-    vals: &[u64],
+    lists: Lists,
     lock: Lock,
     recs: &mut [Rec],
     schedule: &[u64],
@@ -88,16 +80,14 @@ pub fn run_rest(
     used: u64,
     trace: &mut [u64],
 ) -> LentRunReturn
-    ensures value { result ≡ ran_of (rest_lent (lists lens.now ops.now vals.now) lock recs.old schedule.now budget used trace.old) }
-    ensures recs_after { recs.new ≡ (rest_lent (lists lens.now ops.now vals.now) lock recs.old schedule.now budget used trace.old).recs }
-    ensures trace_after { trace.new ≡ rest_lent_trace (lists lens.now ops.now vals.now) lock recs.old schedule.now budget used trace.old }
+    ensures value { result ≡ ran_of (rest_lent (lent lists.entry) lock recs.old schedule.now budget used trace.old) }
+    ensures recs_after { recs.new ≡ (rest_lent (lent lists.entry) lock recs.old schedule.now budget used trace.old).recs }
+    ensures trace_after { trace.new ≡ rest_lent_trace (lent lists.entry) lock recs.old schedule.now budget used trace.old }
 {
     let blank = exchange::blank();
     let taken = exchange::exchange(recs, blank);
     let left = rest_taken(
-        lens,
-        ops,
-        vals,
+        lists,
         lock,
         taken,
         recs.len() as u64,
@@ -111,9 +101,7 @@ pub fn run_rest(
 }
 
 fn rest_taken(
-    lens: &[u64],
-    ops: &[u64],
-    vals: &[u64],
+    lists: Lists,
     lock: Lock,
     recs: [Rec; 16],
     count: u64,
@@ -122,35 +110,31 @@ fn rest_taken(
     used: u64,
     trace: &mut [u64],
 ) -> RanWith
-    ensures value { result ≡ ran_with count recs (rest_of (lists lens.now ops.now vals.now) count lock recs schedule.now budget used trace.old) }
-    ensures trace_after { trace.new ≡ rest_trace (lists lens.now ops.now vals.now) count lock recs schedule.now budget used trace.old }
+    ensures value { result ≡ ran_with count recs (rest_of (lent lists.entry) count lock recs schedule.now budget used trace.old) }
+    ensures trace_after { trace.new ≡ rest_trace (lent lists.entry) count lock recs schedule.now budget used trace.old }
 {
     let left = lock::run::run_rest(
-        lens, ops, vals, lock, recs, count, schedule, budget, used, trace,
+        lists, lock, recs, count, schedule, budget, used, trace,
     );
     apart(left)
 }
 
 // One entry of a thread, with its row at the start of the trace list.
 pub fn step(
-    lens: &[u64],
-    ops: &[u64],
-    vals: &[u64],
+    lists: Lists,
     lock: Lock,
     recs: &mut [Rec],
     thread: u64,
     trace: &mut [u64],
 ) -> LentRunReturn
-    ensures value { result ≡ ran_of (step_lent (lists lens.now ops.now vals.now) lock recs.old thread trace.old) }
-    ensures recs_after { recs.new ≡ (step_lent (lists lens.now ops.now vals.now) lock recs.old thread trace.old).recs }
-    ensures trace_after { trace.new ≡ (step_lent (lists lens.now ops.now vals.now) lock recs.old thread trace.old).trace }
+    ensures value { result ≡ ran_of (step_lent (lent lists.entry) lock recs.old thread trace.old) }
+    ensures recs_after { recs.new ≡ (step_lent (lent lists.entry) lock recs.old thread trace.old).recs }
+    ensures trace_after { trace.new ≡ (step_lent (lent lists.entry) lock recs.old thread trace.old).trace }
 {
     let blank = exchange::blank();
     let taken = exchange::exchange(recs, blank);
     let left = step_taken(
-        lens,
-        ops,
-        vals,
+        lists,
         lock,
         taken,
         recs.len() as u64,
@@ -162,20 +146,18 @@ pub fn step(
 }
 
 fn step_taken(
-    lens: &[u64],
-    ops: &[u64],
-    vals: &[u64],
+    lists: Lists,
     lock: Lock,
     recs: [Rec; 16],
     count: u64,
     thread: u64,
     trace: &mut [u64],
 ) -> RanWith
-    ensures value { result ≡ ran_with count recs (run_of (lists lens.now ops.now vals.now) count lock recs (thread ∷ []) 1 trace.old) }
-    ensures trace_after { trace.new ≡ (run_of (lists lens.now ops.now vals.now) count lock recs (thread ∷ []) 1 trace.old).trace }
+    ensures value { result ≡ ran_with count recs (run_of (lent lists.entry) count lock recs (thread ∷ []) 1 trace.old) }
+    ensures trace_after { trace.new ≡ (run_of (lent lists.entry) count lock recs (thread ∷ []) 1 trace.old).trace }
 {
     let schedule = [thread];
-    run_taken(lens, ops, vals, lock, recs, count, &schedule, 1, trace)
+    run_taken(lists, lock, recs, count, &schedule, 1, trace)
 }
 
 // The answer apart from the records.

@@ -3,7 +3,7 @@
 
 ghost use Rattle.std.specs.Prelude.{◌+◌, ◌<◌, ◌≤◌, ◌^◌, ◌≡◌, length, take};
 ghost use Rattle.std.proofs.lemmas.List.Edits.{sets};
-ghost use Rattle.machine.specs.Lists.{lists, scripts_of};
+ghost use Rattle.machine.specs.Lists.{lent, scripts_of};
 ghost use Rattle.machine.specs.Drain.{until, sweep};
 ghost use Rattle.lock.specs.ByValue.{run_refusal_of};
 ghost use Rattle.lock.specs.Drain.{stop_of};
@@ -12,13 +12,10 @@ ghost use Rattle.lock_order.specs.Write.{Able, one_of, within, went_of};
 
 use lock::drain::{Stop, stops};
 use lock_words::names::NONE;
-use machine::{Lock, Rec, Refusal};
+use machine::{Lists, Lock, ROW_WORDS, Rec, Refusal};
 
 // The refusal where the entries have no room.
 pub const NO_ROOM: u64 = 41;
-
-// The words of a row of a run.
-const ROW: usize = 6;
 
 // The refusal, whose number is 0 for none; how many entries were written; how many they are at most by the rules: the plain cost of the
 // state given and three a thread.
@@ -39,19 +36,11 @@ struct Going {
 
 // The records are the first `count` of the array. The entries stand at the start of `out`, and words behind them stay. Refused as drain
 // is, then by 41 where they have no room. They are counted first, by drain itself, so that a refusal has written nothing.
-pub fn drain_order(
-    lens: &[u64],
-    ops: &[u64],
-    vals: &[u64],
-    lock: Lock,
-    recs: [Rec; 16],
-    count: u64,
-    out: &mut [u64],
-) -> Answer
-    ensures value { result ≡ answer_of (order_of (lists lens.now ops.now vals.now) count lock recs out.old) }
-    ensures out_after { out.new ≡ (order_of (lists lens.now ops.now vals.now) count lock recs out.old).out }
+pub fn drain_order(lists: Lists, lock: Lock, recs: [Rec; 16], count: u64, out: &mut [u64]) -> Answer
+    ensures value { result ≡ answer_of (order_of (lent lists.entry) count lock recs out.old) }
+    ensures out_after { out.new ≡ (order_of (lent lists.entry) count lock recs out.old).out }
 {
-    let end = lock::drain::drain(lens, ops, vals, lock, recs, count);
+    let end = lock::drain::drain(lists, lock, recs, count);
     let why = end.refusal;
     if why.number != NONE {
         return Answer {
@@ -71,61 +60,41 @@ pub fn drain_order(
             bound: 0,
         };
     }
-    write(lens, ops, vals, lock, recs, count, end.n, out);
+    write(lists, lock, recs, count, end.n, out);
     Answer {
         refusal: why,
         n: end.n,
-        bound: lock::drain::bound_of(lens, ops, vals, lock, recs, count),
+        bound: lock::drain::bound_of(lists, lock, recs, count),
     }
 }
 
 // The three parts of the order, where nothing is refused; n is as much as any thread needs.
-fn write(
-    lens: &[u64],
-    ops: &[u64],
-    vals: &[u64],
-    lock: Lock,
-    recs: [Rec; 16],
-    count: u64,
-    n: u64,
-    out: &mut [u64],
-)
-    requires recs_value { run_refusal_of (lists lens.now ops.now vals.now) count lock (take count recs) ≡ 0 }
-    requires recs_in_bounds { length (within n (scripts_of (lists lens.now ops.now vals.now)) lock (take count recs)).made ≤ length out.old }
-    ensures { out.new ≡ sets out.old 0 (within n (scripts_of (lists lens.now ops.now vals.now)) lock (take count recs)).made }
+fn write(lists: Lists, lock: Lock, recs: [Rec; 16], count: u64, n: u64, out: &mut [u64])
+    requires recs_value { run_refusal_of (lent lists) count lock (take count recs) ≡ 0 }
+    requires recs_in_bounds { length (within n (scripts_of (lent lists)) lock (take count recs)).made ≤ length out.old }
+    ensures { out.new ≡ sets out.old 0 (within n (scripts_of (lent lists.entry)) lock (take count recs)).made }
 {
     let start = Going {
         lock,
         recs,
         used: 0,
     };
-    let first = sweep(Stop::IdleOrWait, n, start, lens, ops, vals, count, out);
-    let second = sweep(Stop::Idle, n, first, lens, ops, vals, count, out);
-    sweep(Stop::End, n, second, lens, ops, vals, count, out);
+    let first = sweep(Stop::IdleOrWait, n, start, lists, count, out);
+    let second = sweep(Stop::Idle, n, first, lists, count, out);
+    sweep(Stop::End, n, second, lists, count, out);
 }
 
 // One part: each thread in its turn steps until it stops, at most `fuel` times.
-fn sweep(
-    stop: Stop,
-    fuel: u64,
-    from: Going,
-    lens: &[u64],
-    ops: &[u64],
-    vals: &[u64],
-    count: u64,
-    out: &mut [u64],
-) -> Going
-    requires able { Able (lists lens.now ops.now vals.now) count from }
-    requires recs_in_bounds { let S = scripts_of (lists lens.now ops.now vals.now) in from.used + length (sweep (stop_of stop S) S fuel 0 count from.lock (take count from.recs)).made ≤ length out.old }
-    ensures able_2 { Able (lists lens.now ops.now vals.now) count result }
-    ensures result_value { let S = scripts_of (lists lens.now ops.now vals.now) in result ≡ went_of count from (sweep (stop_of stop S) S fuel 0 count from.lock (take count from.recs)) }
-    ensures out_after { let S = scripts_of (lists lens.now ops.now vals.now) in out.new ≡ sets out.old from.used (sweep (stop_of stop S) S fuel 0 count from.lock (take count from.recs)).made }
+fn sweep(stop: Stop, fuel: u64, from: Going, lists: Lists, count: u64, out: &mut [u64]) -> Going
+    requires able { Able (lent lists) count from }
+    requires recs_in_bounds { let S = scripts_of (lent lists) in from.used + length (sweep (stop_of stop S) S fuel 0 count from.lock (take count from.recs)).made ≤ length out.old }
+    ensures able_2 { Able (lent lists.entry) count result }
+    ensures result_value { let S = scripts_of (lent lists.entry) in result ≡ went_of count from (sweep (stop_of stop S) S fuel 0 count from.lock (take count from.recs)) }
+    ensures out_after { let S = scripts_of (lent lists.entry) in out.new ≡ sets out.old from.used (sweep (stop_of stop S) S fuel 0 count from.lock (take count from.recs)).made }
 {
     let mut g = from;
-    let mut k = 0;
-    while k < lens.len() {
-        g = until(stop, k, fuel, g, lens, ops, vals, count, out);
-        k += 1;
+    for k in 0..lists.lens.len() {
+        g = until(stop, k, fuel, g, lists, count, out);
     }
     g
 }
@@ -136,52 +105,41 @@ fn until(
     i: usize,
     fuel: u64,
     from: Going,
-    lens: &[u64],
-    ops: &[u64],
-    vals: &[u64],
+    lists: Lists,
     count: u64,
     out: &mut [u64],
 ) -> Going
-    requires able { Able (lists lens.now ops.now vals.now) count from }
-    requires i_in_bounds { i < length lens.now }
-    requires recs_in_bounds { let S = scripts_of (lists lens.now ops.now vals.now) in from.used + length (until (stop_of stop S) S i fuel from.lock (take count from.recs)).made ≤ length out.old }
-    ensures able_2 { Able (lists lens.now ops.now vals.now) count result }
-    ensures result_value { let S = scripts_of (lists lens.now ops.now vals.now) in result ≡ went_of count from (until (stop_of stop S) S i fuel from.lock (take count from.recs)) }
-    ensures out_after { let S = scripts_of (lists lens.now ops.now vals.now) in out.new ≡ sets out.old from.used (until (stop_of stop S) S i fuel from.lock (take count from.recs)).made }
+    requires able { Able (lent lists) count from }
+    requires i_in_bounds { i < length lists.lens.now }
+    requires recs_in_bounds { let S = scripts_of (lent lists) in from.used + length (until (stop_of stop S) S i fuel from.lock (take count from.recs)).made ≤ length out.old }
+    ensures able_2 { Able (lent lists.entry) count result }
+    ensures result_value { let S = scripts_of (lent lists.entry) in result ≡ went_of count from (until (stop_of stop S) S i fuel from.lock (take count from.recs)) }
+    ensures out_after { let S = scripts_of (lent lists.entry) in out.new ≡ sets out.old from.used (until (stop_of stop S) S i fuel from.lock (take count from.recs)).made }
 {
-    let len = lens[i];
     let mut g = from;
-    let mut left = fuel;
-    while 0 < left {
-        let recs = g.recs;
-        let rec = recs[i];
-        if stops(stop, rec, len) {
+    for _ in 0..fuel {
+        if stops(stop, g.recs[i], lists.lens[i]) {
             return g;
         }
-        let at = g.used;
-        out[at] = i as u64;
-        g = stepped(g, i as u64, lens, ops, vals, count);
-        left -= 1;
+        out[g.used] = i as u64;
+        g = stepped(g, i as u64, lists, count);
     }
     g
 }
 
 // One entry: a run of it.
-fn stepped(from: Going, i: u64, lens: &[u64], ops: &[u64], vals: &[u64], count: u64) -> Going
-    requires able { Able (lists lens.now ops.now vals.now) count from }
+fn stepped(from: Going, i: u64, lists: Lists, count: u64) -> Going
+    requires able { Able (lent lists) count from }
     requires used_bound { from.used + 1 < 2 ^ 64 }
-    ensures { result ≡ went_of count from (one_of (scripts_of (lists lens.now ops.now vals.now)) from.lock (take count from.recs) i) }
+    ensures { result ≡ went_of count from (one_of (scripts_of (lent lists.entry)) from.lock (take count from.recs) i) }
 {
-    let schedule = [i];
-    let mut row = [0; ROW];
-    let lock = from.lock;
-    let recs = from.recs;
-    let ran = lock::run::run(lens, ops, vals, lock, recs, count, &schedule, 1, &mut row);
-    let lock = ran.lock;
+    let Going { lock, recs, used } = from;
+    let mut row = [0; ROW_WORDS];
+    let ran = lock::run::run(lists, lock, recs, count, &[i], 1, &mut row);
     let recs = ran.recs;
     Going {
-        lock,
+        lock: ran.lock,
         recs,
-        used: from.used + 1,
+        used: used + 1,
     }
 }

@@ -3,29 +3,29 @@
 
 ghost use Rattle.std.specs.Prelude.{◌≡◌, [], ◌∷◌, ◌+◌, ◌<◌, ◌^◌, min, eqb, get_or};
 ghost use Rattle.machine.specs.Refusals.{lowest};
-ghost use Rattle.machine.specs.Lists.{lists, total, start, wrong, long_thread, list_checks, beside};
+ghost use Rattle.machine.specs.Lists.{lent, total, start, wrong, long_thread, list_checks, beside};
 ghost use Rattle.lock_scripts.specs.Checks.{fit, code_check, place_from};
 
 use lock_words::names::{
     INTO_INNER, LONGEST_SCRIPT, RELEASE_WRITE, SCRIPT_TOO_LONG, WRONG_CODE, WRONG_LENGTHS,
 };
-use machine::Refusal;
+use machine::{Lists, Refusal};
 
 // What is wrong with the lists or with the number of records: the lowest refusal, 0 if there is none. Each check is made only after those
 // before it have passed, so that the scripts which the last one reads lie inside the lists.
-pub fn refused(lens: &[u64], ops: &[u64], vals: &[u64], records: u64) -> Refusal
-    ensures { let s = lists lens.now ops.now vals.now in result ≡ beside s (lowest (list_checks s records)) }
+pub fn refused(lists: Lists, records: u64) -> Refusal
+    ensures { let s = lent lists.entry in result ≡ beside s (lowest (list_checks s records)) }
 {
-    let long = long_thread(lens);
-    if long < lens.len() as u64 {
+    let long = long_thread(lists.lens);
+    if long < lists.lens.len() as u64 {
         return Refusal {
             number: SCRIPT_TOO_LONG,
             thread: long,
             place: 0,
         };
     }
-    if lengths_fit(lens, ops, vals, records) {
-        return wrong_code(lens, ops, vals);
+    if lengths_fit(lists, records) {
+        return wrong_code(lists);
     }
     Refusal {
         number: WRONG_LENGTHS,
@@ -91,16 +91,16 @@ fn long_thread(lens: &[u64]) -> u64
 }
 
 // 6: as many operations, and as many values, as the lengths say, and a record for each length.
-fn lengths_fit(lens: &[u64], ops: &[u64], vals: &[u64], records: u64) -> bool
-    ensures { result ≡ fit (lists lens.now ops.now vals.now) records }
+fn lengths_fit(lists: Lists, records: u64) -> bool
+    ensures { result ≡ fit (lent lists.entry) records }
 {
-    if ops.len() != vals.len() {
+    if lists.ops.len() != lists.vals.len() {
         return false;
     }
-    if records != lens.len() as u64 {
+    if records != lists.lens.len() as u64 {
         return false;
     }
-    sums_to(lens, ops.len() as u64)
+    sums_to(lists.lens, lists.ops.len() as u64)
 }
 
 // Whether the lengths sum up to n. Cut one above n, a larger sum is still told from n, and the lengths after that are not read.
@@ -113,15 +113,15 @@ fn sums_to(lens: &[u64], n: u64) -> bool
 
 // 7: the first thread with a wrong code or value, and in it the first script place; no refusal if there is none. No start wraps, since the
 // sum of all lengths does not.
-fn wrong_code(lens: &[u64], ops: &[u64], vals: &[u64]) -> Refusal
-    requires { total lens.now < 2 ^ 64 }
-    ensures { let s = lists lens.now ops.now vals.now in result ≡ beside s (lowest (code_check s ∷ [])) }
+fn wrong_code(lists: Lists) -> Refusal
+    requires { total lists.lens.now < 2 ^ 64 }
+    ensures { let s = lent lists.entry in result ≡ beside s (lowest (code_check s ∷ [])) }
 {
     let mut from = 0;
     let mut t = 0;
-    while t < lens.len() {
-        let n = lens[t];
-        let k = wrong_place(ops, vals, from, n);
+    while t < lists.lens.len() {
+        let n = lists.lens[t];
+        let k = wrong_place(lists.ops, lists.vals, from, n);
         if k < n {
             return Refusal {
                 number: WRONG_CODE,

@@ -5,7 +5,7 @@ ghost use Rattle.lock_sound.specs.Records.{alone, mover_at};
 
 use super::script;
 use lock_words::names::{INTO_INNER, MOST_THREADS};
-use machine::{Place, Rec};
+use machine::{Lists, Place, Rec};
 
 // The record r, whose operation is o, is at operation 7, and of so many records that are not Idle it is the only one.
 fn is_alone(len: u64, o: u64, r: Rec, busy: u64) -> bool
@@ -17,15 +17,8 @@ fn is_alone(len: u64, o: u64, r: Rec, busy: u64) -> bool
 }
 
 // A mover is a thread that there is, and the clauses on its record hold. `busy` is how many of the records are not Idle.
-pub fn holds(
-    lens: &[u64],
-    ops: &[u64],
-    by: Option<u64>,
-    recs: [Rec; 16],
-    count: u64,
-    busy: u64,
-) -> bool
-    ensures { result ≡ mover_at (unvalued lens.now ops.now) (take count recs) busy by }
+pub fn holds(lists: Lists, by: Option<u64>, recs: [Rec; 16], count: u64, busy: u64) -> bool
+    ensures { result ≡ mover_at (unvalued lists.entry.lens.now lists.entry.ops.now) (take count recs) busy by }
 {
     match by {
         None => true,
@@ -34,8 +27,8 @@ pub fn holds(
                 return false;
             }
             let r = recs[t as usize];
-            let len = lock_scripts::length_at(lens, t);
-            let o = script::word_of(lens, ops, t, r.at);
+            let len = lock_scripts::length_at(lists.lens, t);
+            let o = script::word_of(lists.lens, lists.ops, t, r.at);
             is_alone(len, o, r, busy)
         }
     }

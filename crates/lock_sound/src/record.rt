@@ -7,7 +7,7 @@ use super::script;
 use cell::pred;
 use cell::pred::Pred;
 use lock_words::names::{ACQUIRE_READ, ACQUIRE_WRITE, INTO_INNER, MOST_THREADS, RELEASE_WRITE};
-use machine::{Place, Rec};
+use machine::{Lists, Place, Rec};
 
 // The script place is below the script's length inside an operation, and elsewhere not past it.
 fn in_range(len: u64, r: Rec) -> bool
@@ -72,22 +72,15 @@ fn keeps(pred: Pred, top: u64, len: u64, o: u64, r: Rec) -> bool
 }
 
 // The clauses on each of the first `count` records.
-pub fn all_keep(
-    lens: &[u64],
-    ops: &[u64],
-    pred: Pred,
-    top: u64,
-    recs: [Rec; 16],
-    count: u64,
-) -> bool
-    ensures { result ≡ every (sound_at lens.now ops.now pred top) 0 (take count recs) }
+pub fn all_keep(lists: Lists, pred: Pred, top: u64, recs: [Rec; 16], count: u64) -> bool
+    ensures { result ≡ every (sound_at lists.entry.lens.now lists.entry.ops.now pred top) 0 (take count recs) }
 {
     let n = lock_words::smaller(count, MOST_THREADS);
     let mut k = 0;
     while k < n {
         let r = recs[k as usize];
-        let len = lock_scripts::length_at(lens, k);
-        let o = script::word_of(lens, ops, k, r.at);
+        let len = lock_scripts::length_at(lists.lens, k);
+        let o = script::word_of(lists.lens, lists.ops, k, r.at);
         if !keeps(pred, top, len, o, r) {
             return false;
         }

@@ -1,14 +1,14 @@
 // The test of soundness: the counts over all records with the clauses on them, and then every record and the mover.
 ghost use Rattle.std.specs.Prelude.{◌≡◌, ◌+◌, ◌*◌, ◌≤◌, take};
 ghost use Rattle.machine.specs.Words.{bit, is};
-ghost use Rattle.machine.specs.Lists.{lists, scripts_of};
+ghost use Rattle.machine.specs.Lists.{lent, scripts_of};
 ghost use Rattle.machine.specs.Sound.{is_into, tally, test_counts, sound};
 ghost use Rattle.lock_sound.specs.Counts.{Few, unvalued, weighed, as_tally, test_readers, test_writers, test_value, test_ending};
 
 use super::{mover, record, script};
 use cell::{pred, value};
 use lock_words::names::{INTO_INNER, MOST_THREADS};
-use machine::{Lock, Place, Rec};
+use machine::{Lists, Lock, Place, Rec};
 
 // How many records stand at each place, are not Idle, or are inside operation 7.
 #[derive(Clone, Copy)]
@@ -25,23 +25,16 @@ struct Counted {
 }
 
 // The records are the first `count` of the array, all 16 where count is above 16. Soundness doesn't look at the values.
-pub fn is_sound(
-    lens: &[u64],
-    ops: &[u64],
-    vals: &[u64],
-    lock: Lock,
-    recs: [Rec; 16],
-    count: u64,
-) -> bool
-    ensures { result ≡ sound (scripts_of (lists lens.now ops.now vals.now)) lock (take count recs) }
+pub fn is_sound(lists: Lists, lock: Lock, recs: [Rec; 16], count: u64) -> bool
+    ensures { result ≡ sound (scripts_of (lent lists.entry)) lock (take count recs) }
 {
     let top = lock.top;
     let pred = lock.pred;
     let by = lock.mover;
-    let all = gather(lens, ops, recs, count);
+    let all = gather(lists, recs, count);
     let counted = counts_hold(lock, all);
-    let kept = record::all_keep(lens, ops, pred, top.0, recs, count);
-    let moved = mover::holds(lens, ops, by, recs, count, all.busy);
+    let kept = record::all_keep(lists, pred, top.0, recs, count);
+    let moved = mover::holds(lists, by, recs, count, all.busy);
     (1 <= top.0) & (pred::is_good(pred) & (counted & (kept & moved)))
 }
 
@@ -85,8 +78,8 @@ fn weigh(n: Counted, r: Rec, o: u64) -> Counted
 }
 
 // The counts over the first `count` records. Of 16 records no count is above 16.
-fn gather(lens: &[u64], ops: &[u64], recs: [Rec; 16], count: u64) -> Counted
-    ensures result_value { as_tally result ≡ tally (unvalued lens.now ops.now) (take count recs) }
+fn gather(lists: Lists, recs: [Rec; 16], count: u64) -> Counted
+    ensures result_value { as_tally result ≡ tally (unvalued lists.entry.lens.now lists.entry.ops.now) (take count recs) }
     ensures few { Few result }
 {
     let mut all = Counted {
@@ -104,7 +97,7 @@ fn gather(lens: &[u64], ops: &[u64], recs: [Rec; 16], count: u64) -> Counted
     let mut k = 0;
     while k < n {
         let r = recs[k as usize];
-        let o = script::word_of(lens, ops, k, r.at);
+        let o = script::word_of(lists.lens, lists.ops, k, r.at);
         all = weigh(all, r, o);
         k += 1;
     }

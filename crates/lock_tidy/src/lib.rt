@@ -2,7 +2,7 @@
 #![tactic(auto)]
 
 ghost use Rattle.std.specs.Prelude.{◌≡◌, ◌-◌, ◌≤◌, take};
-ghost use Rattle.machine.specs.Lists.{lists, scripts_of};
+ghost use Rattle.machine.specs.Lists.{lent, scripts_of};
 ghost use Rattle.machine.specs.Sound.{every};
 ghost use Rattle.machine.specs.Tidy.{mode_of, tidy_rest, is_clean, tidy};
 ghost use Rattle.lock_tidy.specs.Rests.{mode, goes_on, held_after, is_free, words_at, tidy_at};
@@ -12,7 +12,7 @@ use cell::pred::Pred;
 use lock_words::names::{
     ACQUIRE_READ, ACQUIRE_WRITE, BORROWS, MOST_THREADS, RELEASE_READ, RELEASE_WRITE,
 };
-use machine::{Lock, Place, Rec};
+use machine::{Lists, Lock, Place, Rec};
 
 // What a thread holds between two operations.
 #[derive(Clone, Copy)]
@@ -23,18 +23,11 @@ enum Held {
 }
 
 // The records are the first `count` of the array, all 16 where count is above 16.
-pub fn is_tidy(
-    lens: &[u64],
-    ops: &[u64],
-    vals: &[u64],
-    lock: Lock,
-    recs: [Rec; 16],
-    count: u64,
-) -> bool
-    ensures { result ≡ tidy (scripts_of (lists lens.now ops.now vals.now)) lock (take count recs) }
+pub fn is_tidy(lists: Lists, lock: Lock, recs: [Rec; 16], count: u64) -> bool
+    ensures { result ≡ tidy (scripts_of (lent lists.entry)) lock (take count recs) }
 {
     let pred = lock.pred;
-    is_clean(lock) & all_tidy(lens, ops, vals, pred, recs, count)
+    is_clean(lock) & all_tidy(lists, pred, recs, count)
 }
 
 // What it holds as its present operation starts.
@@ -118,36 +111,38 @@ fn rest_holds(
 }
 
 // The rest of thread i's script, from its record on.
-fn rest_tidy(lens: &[u64], ops: &[u64], vals: &[u64], i: u64, pred: Pred, r: Rec) -> bool
-    ensures { result ≡ tidy_at lens.now ops.now vals.now pred i r }
+fn rest_tidy(lists: Lists, i: u64, pred: Pred, r: Rec) -> bool
+    ensures { result ≡ tidy_at lists.entry.lens.now lists.entry.ops.now lists.entry.vals.now pred i r }
 {
-    let len = lock_scripts::length_at(lens, i);
+    let len = lock_scripts::length_at(lists.lens, i);
     let from = r.at;
     if len < from {
         return false;
     }
     let place = r.place;
-    let op0 = lock_scripts::start_of(lens, i, ops.len() as u64);
-    let val0 = lock_scripts::start_of(lens, i, vals.len() as u64);
-    rest_holds(ops, op0, vals, val0, pred, held_at(place), from, len)
+    let op0 = lock_scripts::start_of(lists.lens, i, lists.ops.len() as u64);
+    let val0 = lock_scripts::start_of(lists.lens, i, lists.vals.len() as u64);
+    rest_holds(
+        lists.ops,
+        op0,
+        lists.vals,
+        val0,
+        pred,
+        held_at(place),
+        from,
+        len,
+    )
 }
 
 // The rests of the scripts of the first `count` records.
-fn all_tidy(
-    lens: &[u64],
-    ops: &[u64],
-    vals: &[u64],
-    pred: Pred,
-    recs: [Rec; 16],
-    count: u64,
-) -> bool
-    ensures { result ≡ every (tidy_at lens.now ops.now vals.now pred) 0 (take count recs) }
+fn all_tidy(lists: Lists, pred: Pred, recs: [Rec; 16], count: u64) -> bool
+    ensures { result ≡ every (tidy_at lists.entry.lens.now lists.entry.ops.now lists.entry.vals.now pred) 0 (take count recs) }
 {
     let n = lock_words::smaller(count, MOST_THREADS);
     let mut k = 0;
     while k < n {
         let r = recs[k as usize];
-        if !rest_tidy(lens, ops, vals, k, pred, r) {
+        if !rest_tidy(lists, k, pred, r) {
             return false;
         }
         k += 1;

@@ -2,13 +2,13 @@
 #![tactic(auto)]
 
 ghost use Rattle.std.specs.Prelude.{◌+◌, ◌*◌, ◌≤◌, ◌≡◌, length};
-ghost use Rattle.machine.specs.Lists.{lists};
+ghost use Rattle.machine.specs.Lists.{lent};
 ghost use Rattle.scenario_pieces.specs.Piece.{piece, first_of, left_of, stored_of, ran_left, ran_stored};
 
 use atomic::Count;
 use cell::pred::Pred;
 use lock::run;
-use machine::{Lock, Place, ROW_WORDS, Rec};
+use machine::{Lists, Lock, Place, ROW_WORDS, Rec};
 
 // The most entries of a piece.
 pub const ENTRIES: u64 = 64;
@@ -42,20 +42,18 @@ pub fn at_first(pred: Pred, top: u64, first: u64) -> Standing
 // The first entries, as many as a piece has, are run, a record for each script, and their rows stored from the word `at` on. Where there is no
 // room for so many rows, or the run is refused, all stays as it is.
 pub fn run_piece(
-    lens: &[u64],
-    ops: &[u64],
-    vals: &[u64],
+    lists: Lists,
     s: Standing,
     entries: &[u64],
     rows: &mut [u64],
     at: usize,
 ) -> Left
-    ensures value { result ≡ left_of (lists lens.now ops.now vals.now) s entries.now rows.old at }
-    ensures rows_after { rows.new ≡ stored_of (lists lens.now ops.now vals.now) s entries.now rows.old at }
+    ensures value { result ≡ left_of (lent lists.entry) s entries.now rows.old at }
+    ensures rows_after { rows.new ≡ stored_of (lent lists.entry) s entries.now rows.old at }
 {
     let n = lock_words::smaller(ENTRIES, entries.len() as u64) as usize;
     if scenario_text::has_room(rows.len(), at, ROW_WORDS * n) {
-        run_there(lens, ops, vals, s, entries, rows, at)
+        run_there(lists, s, entries, rows, at)
     } else {
         Left { standing: s, at }
     }
@@ -64,27 +62,23 @@ pub fn run_piece(
 // Where there is room. The rows are lent on from there, so that none is copied. A run that is refused has none, and leaves the lock and the
 // records.
 fn run_there(
-    lens: &[u64],
-    ops: &[u64],
-    vals: &[u64],
+    lists: Lists,
     s: Standing,
     entries: &[u64],
     rows: &mut [u64],
     at: usize,
 ) -> Left
     requires { at + 6 * length (piece entries.now) ≤ length rows.old }
-    ensures value { result ≡ ran_left (lists lens.now ops.now vals.now) s entries.now at }
-    ensures rows_after { rows.new ≡ ran_stored (lists lens.now ops.now vals.now) s entries.now rows.old at }
+    ensures value { result ≡ ran_left (lent lists.entry) s entries.now at }
+    ensures rows_after { rows.new ≡ ran_stored (lent lists.entry) s entries.now rows.old at }
 {
     let lock = s.lock;
     let recs = s.recs;
     let ran = run::run(
-        lens,
-        ops,
-        vals,
+        lists,
         lock,
         recs,
-        lens.len() as u64,
+        lists.lens.len() as u64,
         entries,
         ENTRIES,
         &mut rows[at..],

@@ -3,7 +3,7 @@
 #![tactic(auto)]
 
 ghost use Rattle.std.specs.Prelude.{◌≡◌, ◌||◌, ◌&&◌, not, eqb, take};
-ghost use Rattle.machine.specs.Lists.{lists};
+ghost use Rattle.machine.specs.Lists.{lent};
 ghost use Rattle.why.specs.Why.{sees_full, loses_count, meets_flag, meets_readers, has_flag, is_counted, first_of, blocker_of, reason_of, by_blocker, record_in, reason_no, who_no};
 ghost use Rattle.why.specs.Told.{numbers_of};
 ghost use Rattle.why_code.specs.ByValue.{told_of, stands_as};
@@ -12,7 +12,7 @@ use lock::run;
 use lock_words::names::{
     FAILS_EXC, FAILS_RC, LOADS_EXC, LOADS_RC, MOST_THREADS, NONE, WAITS_RC, YES,
 };
-use machine::{Lock, Place, Rec, Refusal};
+use machine::{Lists, Lock, Place, Rec, Refusal};
 use why::{Blocker, Numbers, Reason, Told};
 
 // Whom a thread waits for.
@@ -27,19 +27,17 @@ const ROW: usize = 6;
 
 // The records are the first `count` of the array. Nothing is changed.
 pub fn why(
-    lens: &[u64],
-    ops: &[u64],
-    vals: &[u64],
+    lists: Lists,
     lock: Lock,
     recs: [Rec; 16],
     count: u64,
     thread: u64,
 ) -> Told
-    ensures { result ≡ told_of (lists lens.now ops.now vals.now) count lock recs thread }
+    ensures { result ≡ told_of (lent lists.entry) count lock recs thread }
 {
     let schedule = [thread];
     let mut row = [0; ROW];
-    let ran = run::run(lens, ops, vals, lock, recs, count, &schedule, 1, &mut row);
+    let ran = run::run(lists, lock, recs, count, &schedule, 1, &mut row);
     let refusal = ran.refusal;
     if refusal.number != NONE {
         return Told::Refused(refusal);

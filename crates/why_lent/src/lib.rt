@@ -3,20 +3,20 @@
 #![tactic(auto)]
 
 ghost use Rattle.std.specs.Prelude.{◌≡◌};
-ghost use Rattle.machine.specs.Lists.{lists};
+ghost use Rattle.machine.specs.Lists.{lent};
 ghost use Rattle.lock_lent.specs.Taken.{taken};
 ghost use Rattle.why.specs.Told.{told_lent};
 
 use lock_lent::exchange;
-use machine::{Lock, Rec};
+use machine::{Lists, Lock, Rec};
 use why::Told;
 
 // Of any list of any length. Nothing is changed.
-pub fn why(lens: &[u64], ops: &[u64], vals: &[u64], lock: Lock, recs: &[Rec], thread: u64) -> Told
-    ensures { result ≡ told_lent (lists lens.now ops.now vals.now) lock recs.now thread }
+pub fn why(lists: Lists, lock: Lock, recs: &[Rec], thread: u64) -> Told
+    ensures { result ≡ told_lent (lent lists.entry) lock recs.now thread }
 {
     let taken = taken(recs);
-    why_code::why(lens, ops, vals, lock, taken, recs.len() as u64, thread)
+    why_code::why(lists, lock, taken, recs.len() as u64, thread)
 }
 
 // The first sixteen records of the list; where it has fewer, records as setup makes them fill the array.

@@ -2,7 +2,7 @@
 use mathlib.Core.Path.{◌≡◌}
 use native.Mathlib.Omega.{arith}
 use lib.ListN.{length, take}
-use Rattle.machine.specs.Lists.{lists}
+use Rattle.machine.specs.Lists.{lent}
 use Rattle.lock.proofs.Draining.{none_of_run}
 use Rattle.lock_order.proofs.Ordering.{within_is, none_is, n_is, left_alone, too_small, written}
 use Rattle.lock_order.proofs.drain_order.Goals as goal
@@ -11,7 +11,7 @@ pub returns-then-why-ne-NONE-clause-value : goal.returns-then-why-ne-NONE-clause
 returns-then-why-ne-NONE-clause-value c =
     let first = c in
     let a = first.args in
-    let s = lists a.lens.now a.ops.now a.vals.now in
+    let s = lent a.lists in
     let d = c.drain-end in
     (left_alone s a.count a.lock a.recs a.out.now d.result d.ensures c.if-why-ne-NONE.true).0
 
@@ -19,7 +19,7 @@ pub returns-then-why-ne-NONE-clause-out_after : goal.returns-then-why-ne-NONE-cl
 returns-then-why-ne-NONE-clause-out_after c =
     let first = c in
     let a = first.args in
-    let s = lists a.lens.now a.ops.now a.vals.now in
+    let s = lent a.lists in
     let d = c.drain-end in
     (left_alone s a.count a.lock a.recs a.out.now d.result d.ensures c.if-why-ne-NONE.true).1
 
@@ -27,7 +27,7 @@ pub returns-then-out-end-clause-value : goal.returns-then-out-end-clause-value
 returns-then-out-end-clause-value c =
     let first = c in
     let a = first.args in
-    let s = lists a.lens.now a.ops.now a.vals.now in
+    let s = lent a.lists in
     let d = c.drain-end in
     (too_small s a.count a.lock a.recs a.out.now d.result d.ensures c.if-why-ne-NONE.false c.if-out-end.true).0
 
@@ -35,7 +35,7 @@ pub returns-then-out-end-clause-out_after : goal.returns-then-out-end-clause-out
 returns-then-out-end-clause-out_after c =
     let first = c in
     let a = first.args in
-    let s = lists a.lens.now a.ops.now a.vals.now in
+    let s = lent a.lists in
     let d = c.drain-end in
     (too_small s a.count a.lock a.recs a.out.now d.result d.ensures c.if-why-ne-NONE.false c.if-out-end.true).1
 
@@ -43,7 +43,7 @@ pub write-requires-clause-recs_value : goal.write-requires-clause-recs_value
 write-requires-clause-recs_value c =
     let first = c in
     let a = first.args in
-    let s = lists a.lens.now a.ops.now a.vals.now in
+    let s = lent a.lists in
     let d = c.drain-end in
     let wide : length a.recs ≡ 16 = omega (arith, first.well_formed) in
     let none = none_is s a.count a.lock a.recs a.out.now d.result d.ensures c.if-why-ne-NONE.false in
@@ -53,7 +53,7 @@ pub write-requires-clause-recs_in_bounds : goal.write-requires-clause-recs_in_bo
 write-requires-clause-recs_in_bounds c =
     let first = c in
     let a = first.args in
-    let s = lists a.lens.now a.ops.now a.vals.now in
+    let s = lent a.lists in
     let d = c.drain-end in
     let wide : length a.recs ≡ 16 = omega (arith, first.well_formed) in
     let none = none_is s a.count a.lock a.recs a.out.now d.result d.ensures c.if-why-ne-NONE.false in
@@ -63,7 +63,7 @@ pub returns-clause-value : goal.returns-clause-value
 returns-clause-value c =
     let first = c in
     let a = first.args in
-    let s = lists a.lens.now a.ops.now a.vals.now in
+    let s = lent a.lists in
     let d = c.drain-end in
     let wide : length a.recs ≡ 16 = omega (arith, first.well_formed) in
     (written s a.count a.lock a.recs a.out.now d.result d.ensures wide c.if-why-ne-NONE.false c.if-out-end.false _ c.write.ensures c.bound_of.result c.bound_of.ensures).0
@@ -72,7 +72,7 @@ pub returns-clause-out_after : goal.returns-clause-out_after
 returns-clause-out_after c =
     let first = c in
     let a = first.args in
-    let s = lists a.lens.now a.ops.now a.vals.now in
+    let s = lent a.lists in
     let d = c.drain-end in
     let wide : length a.recs ≡ 16 = omega (arith, first.well_formed) in
     (written s a.count a.lock a.recs a.out.now d.result d.ensures wide c.if-why-ne-NONE.false c.if-out-end.false _ c.write.ensures c.bound_of.result c.bound_of.ensures).1

@@ -5,7 +5,7 @@ use mathlib.Core.Path.{◌≡◌, refl, ap, sym, subst, ◌∙◌}
 use native.Mathlib.Omega.{arith}
 use lib.ListN.{take}
 use lib.Seq.{sets, length-sets}
-use Rattle.machine.specs.Lists.{Lent, lists, scripts_of}
+use Rattle.machine.specs.Lists.{Lent, lent, scripts_of}
 use Rattle.machine.specs.Drain.{Went, until, sweep}
 use Rattle.lock.specs.Drain.{stop_of}
 use Rattle.lock_order.specs.Write.{went_of}
@@ -24,19 +24,14 @@ Turn s count stop fuel g k = until (stop_of stop (scripts_of s)) (scripts_of s) 
 
 pub loop-k-init : goal.loop-k-init
 loop-k-init c =
-    let first = c in
-    let a = first.args in
+    let a = c.args in
     let all : a.count - 0 ≡ a.count = omega arith in
-    (first.requires.able, rw all refl, rw all refl, refl)
-
-pub overflow_add-k : goal.overflow_add-k
-overflow_add-k c = omega (arith, c.loop-k-test.true, c.well_formed)
+    (c.requires.able, rw all refl, rw all refl, refl)
 
 pub loop-k-preserved : goal.loop-k-preserved
 loop-k-preserved c =
-    let first = c in
-    let a = first.args in
-    let s = lists a.lens.now a.ops.now a.vals.now in
+    let a = c.args in
+    let s = lent a.lists in
     let l = c.loop-k in
     let many = as_many s a.count l.g l.invariant.0 in
     let stop = stop_of a.stop (scripts_of s) in
@@ -53,68 +48,25 @@ loop-k-preserved c =
       rw c.until-g.ensures.out_after (length-sets l.out l.g.used (Turn s a.count a.stop a.fuel l.g l.k).made ∙ l.invariant.3),
     )
 
-pub until-g-requires-clause-able : goal.until-g-requires-clause-able
-until-g-requires-clause-able c =
-    let first = c in
-    let a = first.args in
-    let s = lists a.lens.now a.ops.now a.vals.now in
+pub until-g-requires : goal.until-g-requires
+until-g-requires c =
+    let a = c.args in
+    let s = lent a.lists in
     let l = c.loop-k in
     let many = as_many s a.count l.g l.invariant.0 in
-    let stop = stop_of a.stop (scripts_of s) in
-    let on = turned s a.count l.g l.invariant.0 stop a.fuel l.k l.out (omega (arith, many, c.loop-k-test.true)) in
-    l.invariant.0
+    let on = turned s a.count l.g l.invariant.0 (stop_of a.stop (scripts_of s)) a.fuel l.k l.out (omega (arith, many, c.loop-k-test.true)) in
+    record {
+      able = l.invariant.0;
+      i_in_bounds = c.loop-k-test.true;
+      recs_in_bounds = omega (arith, on.2, ap (λ (x : Going). x.used) l.invariant.1, c.requires.recs_in_bounds, l.invariant.3);
+    }
 
-pub until-g-requires-clause-i_in_bounds : goal.until-g-requires-clause-i_in_bounds
-until-g-requires-clause-i_in_bounds c =
-    let first = c in
-    let a = first.args in
-    let s = lists a.lens.now a.ops.now a.vals.now in
+pub returns : goal.returns
+returns c =
+    let a = c.args in
+    let s = lent a.lists in
     let l = c.loop-k in
     let many = as_many s a.count l.g l.invariant.0 in
-    let stop = stop_of a.stop (scripts_of s) in
-    let on = turned s a.count l.g l.invariant.0 stop a.fuel l.k l.out (omega (arith, many, c.loop-k-test.true)) in
-    c.loop-k-test.true
-
-pub until-g-requires-clause-recs_in_bounds : goal.until-g-requires-clause-recs_in_bounds
-until-g-requires-clause-recs_in_bounds c =
-    let first = c in
-    let a = first.args in
-    let s = lists a.lens.now a.ops.now a.vals.now in
-    let l = c.loop-k in
-    let many = as_many s a.count l.g l.invariant.0 in
-    let stop = stop_of a.stop (scripts_of s) in
-    let on = turned s a.count l.g l.invariant.0 stop a.fuel l.k l.out (omega (arith, many, c.loop-k-test.true)) in
-    omega (arith, on.2, ap (λ (x : Going). x.used) l.invariant.1, first.requires.recs_in_bounds, l.invariant.3)
-
-pub returns-clause-able_2 : goal.returns-clause-able_2
-returns-clause-able_2 c =
-    let first = c in
-    let a = first.args in
-    let s = lists a.lens.now a.ops.now a.vals.now in
-    let l = c.loop-k in
-    let many = as_many s a.count l.g l.invariant.0 in
-    let stop = stop_of a.stop (scripts_of s) in
-    let done = over a.count l.g (Part s a.count a.stop a.fuel l.g l.k (a.count - l.k)) l.out (all_turned s a.count l.g l.invariant.0 stop a.fuel l.k l.out (omega (arith, many, c.loop-k-test.false))) in
-    l.invariant.0
-
-pub returns-clause-result_value : goal.returns-clause-result_value
-returns-clause-result_value c =
-    let first = c in
-    let a = first.args in
-    let s = lists a.lens.now a.ops.now a.vals.now in
-    let l = c.loop-k in
-    let many = as_many s a.count l.g l.invariant.0 in
-    let stop = stop_of a.stop (scripts_of s) in
-    let done = over a.count l.g (Part s a.count a.stop a.fuel l.g l.k (a.count - l.k)) l.out (all_turned s a.count l.g l.invariant.0 stop a.fuel l.k l.out (omega (arith, many, c.loop-k-test.false))) in
-    done.0 ∙ l.invariant.1
-
-pub returns-clause-out_after : goal.returns-clause-out_after
-returns-clause-out_after c =
-    let first = c in
-    let a = first.args in
-    let s = lists a.lens.now a.ops.now a.vals.now in
-    let l = c.loop-k in
-    let many = as_many s a.count l.g l.invariant.0 in
-    let stop = stop_of a.stop (scripts_of s) in
-    let done = over a.count l.g (Part s a.count a.stop a.fuel l.g l.k (a.count - l.k)) l.out (all_turned s a.count l.g l.invariant.0 stop a.fuel l.k l.out (omega (arith, many, c.loop-k-test.false))) in
-    done.1 ∙ l.invariant.2
+    let rest = Part s a.count a.stop a.fuel l.g l.k (a.count - l.k) in
+    let done = over a.count l.g rest l.out (all_turned s a.count l.g l.invariant.0 (stop_of a.stop (scripts_of s)) a.fuel l.k l.out (omega (arith, many, c.loop-k-test.false))) in
+    record { able_2 = l.invariant.0; result_value = done.0 ∙ l.invariant.1; out_after = done.1 ∙ l.invariant.2 }

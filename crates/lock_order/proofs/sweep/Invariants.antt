@@ -4,7 +4,7 @@ use Prim.Native.Nat.{ℕ, ◌-◌}
 use mathlib.Core.Path.{◌≡◌}
 use lib.ListN.{length, take}
 use lib.Seq.{sets}
-use Rattle.machine.specs.Lists.{Lent, lists, scripts_of}
+use Rattle.machine.specs.Lists.{Lent, lent, scripts_of}
 use Rattle.machine.specs.Drain.{Went, until, sweep}
 use Rattle.lock.specs.Drain.{stop_of}
 use Rattle.lock_order.specs.Write.{Able, went_of}
@@ -22,11 +22,8 @@ Turn s count stop fuel g k = until (stop_of stop (scripts_of s)) (scripts_of s) 
 
 abbrev pub invariant-loop-k : goal.invariant-loop-k
 invariant-loop-k l =
-    let s = lists l.lens l.ops l.vals in
+    let s = lent l.lists in
     Able s l.count l.g
     × (went_of l.count l.g (Part s l.count l.stop l.fuel l.g l.k (l.count - l.k)) ≡ went_of l.count l.initial.g (Part s l.count l.stop l.fuel l.initial.g 0 l.count))
     × (sets l.out l.g.used (Part s l.count l.stop l.fuel l.g l.k (l.count - l.k)).made ≡ sets l.initial.out l.initial.g.used (Part s l.count l.stop l.fuel l.initial.g 0 l.count).made)
     × (length l.out ≡ length l.initial.out)
-
-abbrev pub decreases-loop-k : goal.decreases-loop-k
-decreases-loop-k l = length l.lens - l.k

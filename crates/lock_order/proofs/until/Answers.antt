@@ -1,11 +1,11 @@
 -- `until` meets its contract. The loop's invariant: a run from there is not refused, and with the entries that are left state and list come
 -- to what the whole turn makes of them. Assumes nothing.
-use Prim.Native.Nat.{ℕ, ◌-◌, ◌<◌}
+use Prim.Native.Nat.{ℕ, ◌+◌, ◌-◌, ◌<◌, ◌≤◌}
 use mathlib.Core.Path.{◌≡◌, ap, sym, subst, ◌∙◌}
 use native.Mathlib.Omega.{arith}
 use lib.ListN.{take, set, length-set}
 use lib.Seq.{sets}
-use Rattle.machine.specs.Lists.{Lent, lists, scripts_of}
+use Rattle.machine.specs.Lists.{Lent, lent, scripts_of}
 use Rattle.machine.specs.Drain.{Went, until}
 use Rattle.lock.specs.Drain.{stop_of}
 use Rattle.lock_order.specs.Write.{Able, went_of}
@@ -18,156 +18,67 @@ use Rattle.lock_order.proofs.until.Goals as goal
 abbrev Turn : Lent → ℕ → Stop → ℕ → Going → ℕ → Went
 Turn s count stop i g left = until (stop_of stop (scripts_of s)) (scripts_of s) i left g.lock (take count g.recs)
 
-pub offset_bounds-recs-i : goal.offset_bounds-recs-i
-offset_bounds-recs-i c =
-    let first = c in
-    let a = first.args in
-    let l = c.loop-left in
-    let s = lists a.lens.now a.ops.now a.vals.now in
-    omega (arith, first.requires.i_in_bounds, as_many s a.count l.g l.invariant.0, few s a.count l.g l.invariant.0)
+pub offset_bounds-g-i : goal.offset_bounds-g-i
+offset_bounds-g-i c =
+    let able = c.loop.invariant.0 in
+    let s = lent c.args.lists in
+    omega (arith, c.requires.i_in_bounds, as_many s c.args.count c.loop.g able, few s c.args.count c.loop.g able)
 
-pub bounds-recs-i : goal.bounds-recs-i
-bounds-recs-i c =
-    let first = c in
-    let a = first.args in
-    let l = c.loop-left in
-    let s = lists a.lens.now a.ops.now a.vals.now in
-    omega (arith, first.requires.i_in_bounds, as_many s a.count l.g l.invariant.0, few s a.count l.g l.invariant.0, l.invariant.0.1)
+pub bounds-g-i : goal.bounds-g-i
+bounds-g-i c =
+    let able = c.loop.invariant.0 in
+    let s = lent c.args.lists in
+    omega (arith, c.requires.i_in_bounds, as_many s c.args.count c.loop.g able, few s c.args.count c.loop.g able, able.1)
 
-pub offset_bounds-out-at : goal.offset_bounds-out-at
-offset_bounds-out-at c =
-    let first = c in
-    let a = first.args in
-    let s = lists a.lens.now a.ops.now a.vals.now in
-    let l = c.loop-left in
-    let there : a.i < a.count = omega (arith, first.requires.i_in_bounds, as_many s a.count l.g l.invariant.0) in
-    let stop = stop_of a.stop (scripts_of s) in
-    let e = sym c.stops.ensures ∙ c.if-stops.false in
-    let more = on_more s a.count l.g l.invariant.0 a.i there stop l.left l.out c.loop-left-test.true e in
-    omega (arith, more.2, ap (λ (x : Going). x.used) l.invariant.1, first.requires.recs_in_bounds, l.invariant.3, first.well_formed)
+pub bounds-out-g : goal.bounds-out-g
+bounds-out-g c =
+    let a = c.args in
+    let l = c.loop in
+    let s = lent a.lists in
+    let there : a.i < a.count = omega (arith, c.requires.i_in_bounds, as_many s a.count l.g l.invariant.0) in
+    let some : 0 < a.fuel - l.counter = omega (arith, c.loop-test.true) in
+    let more = on_more s a.count l.g l.invariant.0 a.i there (stop_of a.stop (scripts_of s)) _ l.out some (sym c.stops.ensures ∙ c.if-stops.false) in
+    omega (arith, more.2, ap (λ (x : Going). x.used) l.invariant.1, c.requires.recs_in_bounds, l.invariant.3)
 
-pub bounds-out-at : goal.bounds-out-at
-bounds-out-at c =
-    let first = c in
-    let a = first.args in
-    let s = lists a.lens.now a.ops.now a.vals.now in
-    let l = c.loop-left in
-    let there : a.i < a.count = omega (arith, first.requires.i_in_bounds, as_many s a.count l.g l.invariant.0) in
-    let stop = stop_of a.stop (scripts_of s) in
-    let e = sym c.stops.ensures ∙ c.if-stops.false in
-    let more = on_more s a.count l.g l.invariant.0 a.i there stop l.left l.out c.loop-left-test.true e in
-    omega (arith, more.2, ap (λ (x : Going). x.used) l.invariant.1, first.requires.recs_in_bounds, l.invariant.3)
-
-pub loop-left-preserved : goal.loop-left-preserved
-loop-left-preserved c =
-    let first = c in
-    let a = first.args in
-    let s = lists a.lens.now a.ops.now a.vals.now in
-    let l = c.loop-left in
-    let there : a.i < a.count = omega (arith, first.requires.i_in_bounds, as_many s a.count l.g l.invariant.0) in
-    let stop = stop_of a.stop (scripts_of s) in
-    let e = sym c.stops.ensures ∙ c.if-stops.false in
-    let more = on_more s a.count l.g l.invariant.0 a.i there stop l.left l.out c.loop-left-test.true e in
-    let now-is = c.stepped-g.ensures in (
-      subst (λ (x : Going). Able s a.count x) (sym now-is) (next_able s a.count l.g l.invariant.0 a.i),
-      subst (λ (x : Going). went_of a.count x (Turn s a.count a.stop a.i x (l.left - 1)) ≡ went_of a.count l.g (Turn s a.count a.stop a.i l.g l.left)) (sym now-is) more.0
+pub loop-preserved : goal.loop-preserved
+loop-preserved c =
+    let a = c.args in
+    let s = lent a.lists in
+    let l = c.loop in
+    let there : a.i < a.count = omega (arith, c.requires.i_in_bounds, as_many s a.count l.g l.invariant.0) in
+    let left = a.fuel - l.counter in
+    let some : 0 < left = omega (arith, c.loop-test.true) in
+    let less : a.fuel - (l.counter + 1) ≡ left - 1 = omega arith in
+    let more = on_more s a.count l.g l.invariant.0 a.i there (stop_of a.stop (scripts_of s)) left l.out some (sym c.stops.ensures ∙ c.if-stops.false) in
+    let now-is = sym c.stepped-g.ensures in
+    rw less (
+      subst (λ (x : Going). Able s a.count x) now-is (next_able s a.count l.g l.invariant.0 a.i),
+      subst (λ (x : Going). went_of a.count x (Turn s a.count a.stop a.i x (left - 1)) ≡ went_of a.count l.g (Turn s a.count a.stop a.i l.g left)) now-is more.0
           ∙ l.invariant.1,
       subst
-          (λ (x : Going). sets (set l.out l.g.used a.i) x.used (Turn s a.count a.stop a.i x (l.left - 1)).made ≡ sets l.out l.g.used (Turn s a.count a.stop a.i l.g l.left).made)
-          (sym now-is) more.1
+          (λ (x : Going). sets (set l.out l.g.used a.i) x.used (Turn s a.count a.stop a.i x (left - 1)).made ≡ sets l.out l.g.used (Turn s a.count a.stop a.i l.g left).made)
+          now-is more.1
           ∙ l.invariant.2,
       length-set l.out l.g.used a.i ∙ l.invariant.3,
     )
 
-pub returns-then-stops-clause-able_2 : goal.returns-then-stops-clause-able_2
-returns-then-stops-clause-able_2 c =
-    let first = c in
-    let a = first.args in
-    let s = lists a.lens.now a.ops.now a.vals.now in
-    let l = c.loop-left in
-    let there : a.i < a.count = omega (arith, first.requires.i_in_bounds, as_many s a.count l.g l.invariant.0) in
-    let stop = stop_of a.stop (scripts_of s) in
-    let e = sym c.stops.ensures ∙ c.if-stops.true in
-    let done = over a.count l.g (Turn s a.count a.stop a.i l.g l.left) l.out (stopped s a.count l.g l.invariant.0 a.i there stop l.left c.loop-left-test.true e) in
-    l.invariant.0
+pub returns-then-stops : goal.returns-then-stops
+returns-then-stops c =
+    let a = c.args in
+    let s = lent a.lists in
+    let l = c.loop in
+    let there : a.i < a.count = omega (arith, c.requires.i_in_bounds, as_many s a.count l.g l.invariant.0) in
+    let some : 0 < a.fuel - l.counter = omega (arith, c.loop-test.true) in
+    let stay = stopped s a.count l.g l.invariant.0 a.i there (stop_of a.stop (scripts_of s)) _ some (sym c.stops.ensures ∙ c.if-stops.true) in
+    let done = over a.count l.g (Turn s a.count a.stop a.i l.g (a.fuel - l.counter)) l.out stay in
+    record { able_2 = l.invariant.0; result_value = done.0 ∙ l.invariant.1; out_after = done.1 ∙ l.invariant.2 }
 
-pub returns-then-stops-clause-result_value : goal.returns-then-stops-clause-result_value
-returns-then-stops-clause-result_value c =
-    let first = c in
-    let a = first.args in
-    let s = lists a.lens.now a.ops.now a.vals.now in
-    let l = c.loop-left in
-    let there : a.i < a.count = omega (arith, first.requires.i_in_bounds, as_many s a.count l.g l.invariant.0) in
-    let stop = stop_of a.stop (scripts_of s) in
-    let e = sym c.stops.ensures ∙ c.if-stops.true in
-    let done = over a.count l.g (Turn s a.count a.stop a.i l.g l.left) l.out (stopped s a.count l.g l.invariant.0 a.i there stop l.left c.loop-left-test.true e) in
-    done.0 ∙ l.invariant.1
-
-pub returns-then-stops-clause-out_after : goal.returns-then-stops-clause-out_after
-returns-then-stops-clause-out_after c =
-    let first = c in
-    let a = first.args in
-    let s = lists a.lens.now a.ops.now a.vals.now in
-    let l = c.loop-left in
-    let there : a.i < a.count = omega (arith, first.requires.i_in_bounds, as_many s a.count l.g l.invariant.0) in
-    let stop = stop_of a.stop (scripts_of s) in
-    let e = sym c.stops.ensures ∙ c.if-stops.true in
-    let done = over a.count l.g (Turn s a.count a.stop a.i l.g l.left) l.out (stopped s a.count l.g l.invariant.0 a.i there stop l.left c.loop-left-test.true e) in
-    done.1 ∙ l.invariant.2
-
-pub stepped-g-requires-clause-able : goal.stepped-g-requires-clause-able
-stepped-g-requires-clause-able c =
-    let first = c in
-    let a = first.args in
-    let s = lists a.lens.now a.ops.now a.vals.now in
-    let l = c.loop-left in
-    let there : a.i < a.count = omega (arith, first.requires.i_in_bounds, as_many s a.count l.g l.invariant.0) in
-    let stop = stop_of a.stop (scripts_of s) in
-    let e = sym c.stops.ensures ∙ c.if-stops.false in
-    let more = on_more s a.count l.g l.invariant.0 a.i there stop l.left l.out c.loop-left-test.true e in
-    l.invariant.0
-
-pub stepped-g-requires-clause-used_bound : goal.stepped-g-requires-clause-used_bound
-stepped-g-requires-clause-used_bound c =
-    let first = c in
-    let a = first.args in
-    let s = lists a.lens.now a.ops.now a.vals.now in
-    let l = c.loop-left in
-    let there : a.i < a.count = omega (arith, first.requires.i_in_bounds, as_many s a.count l.g l.invariant.0) in
-    let stop = stop_of a.stop (scripts_of s) in
-    let e = sym c.stops.ensures ∙ c.if-stops.false in
-    let more = on_more s a.count l.g l.invariant.0 a.i there stop l.left l.out c.loop-left-test.true e in
-    omega (arith, more.2, ap (λ (x : Going). x.used) l.invariant.1, first.requires.recs_in_bounds, l.invariant.3, first.well_formed)
-
-pub returns-clause-able_2 : goal.returns-clause-able_2
-returns-clause-able_2 c =
-    let first = c in
-    let a = first.args in
-    let s = lists a.lens.now a.ops.now a.vals.now in
-    let l = c.loop-left in
-    let there : a.i < a.count = omega (arith, first.requires.i_in_bounds, as_many s a.count l.g l.invariant.0) in
-    let stop = stop_of a.stop (scripts_of s) in
-    let done = over a.count l.g (Turn s a.count a.stop a.i l.g l.left) l.out (spent s a.count l.g l.invariant.0 a.i there stop l.left c.loop-left-test.false) in
-    l.invariant.0
-
-pub returns-clause-result_value : goal.returns-clause-result_value
-returns-clause-result_value c =
-    let first = c in
-    let a = first.args in
-    let s = lists a.lens.now a.ops.now a.vals.now in
-    let l = c.loop-left in
-    let there : a.i < a.count = omega (arith, first.requires.i_in_bounds, as_many s a.count l.g l.invariant.0) in
-    let stop = stop_of a.stop (scripts_of s) in
-    let done = over a.count l.g (Turn s a.count a.stop a.i l.g l.left) l.out (spent s a.count l.g l.invariant.0 a.i there stop l.left c.loop-left-test.false) in
-    done.0 ∙ l.invariant.1
-
-pub returns-clause-out_after : goal.returns-clause-out_after
-returns-clause-out_after c =
-    let first = c in
-    let a = first.args in
-    let s = lists a.lens.now a.ops.now a.vals.now in
-    let l = c.loop-left in
-    let there : a.i < a.count = omega (arith, first.requires.i_in_bounds, as_many s a.count l.g l.invariant.0) in
-    let stop = stop_of a.stop (scripts_of s) in
-    let done = over a.count l.g (Turn s a.count a.stop a.i l.g l.left) l.out (spent s a.count l.g l.invariant.0 a.i there stop l.left c.loop-left-test.false) in
-    done.1 ∙ l.invariant.2
+pub returns : goal.returns
+returns c =
+    let a = c.args in
+    let s = lent a.lists in
+    let l = c.loop in
+    let there : a.i < a.count = omega (arith, c.requires.i_in_bounds, as_many s a.count l.g l.invariant.0) in
+    let stay = spent s a.count l.g l.invariant.0 a.i there (stop_of a.stop (scripts_of s)) _ (omega (arith, c.loop-test.false)) in
+    let done = over a.count l.g (Turn s a.count a.stop a.i l.g (a.fuel - l.counter)) l.out stay in
+    record { able_2 = l.invariant.0; result_value = done.0 ∙ l.invariant.1; out_after = done.1 ∙ l.invariant.2 }

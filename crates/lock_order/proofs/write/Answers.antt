@@ -5,7 +5,7 @@ use mathlib.Core.List.{List}
 use native.Mathlib.Omega.{arith}
 use lib.ListN.{length}
 use lib.Seq.{sets, length-sets}
-use Rattle.machine.specs.Lists.{lists}
+use Rattle.machine.specs.Lists.{lent}
 use Rattle.lock_order.specs.Write.{Able, went_of}
 use Rattle.lock_order.specs.declared.Going.{Going}
 use Rattle.lock.specs.declared.drain.Stop.TheVariants.{IdleOrWait, Idle as IdleOnly, End}
@@ -16,7 +16,7 @@ pub returns : goal.returns
 returns c =
     let first = c in
     let a = first.args in
-    let s = lists a.lens.now a.ops.now a.vals.now in
+    let s = lent a.lists in
     let g : Going = record { lock = a.lock; recs = a.recs; used = 0 } in
     let able : Able s a.count g = (first.requires.recs_value, omega (arith, first.well_formed)) in
     let one = c.sweep-first in
@@ -32,7 +32,7 @@ pub sweep-first-requires-clause-able : goal.sweep-first-requires-clause-able
 sweep-first-requires-clause-able c =
     let first = c in
     let a = first.args in
-    let s = lists a.lens.now a.ops.now a.vals.now in
+    let s = lent a.lists in
     let g : Going = record { lock = a.lock; recs = a.recs; used = 0 } in
     let able : Able s a.count g = (first.requires.recs_value, omega (arith, first.well_formed)) in
     let x : Going = went_of a.count g (part_of s a.count a.n IdleOrWait g) in
@@ -43,7 +43,7 @@ pub sweep-first-requires-clause-recs_in_bounds : goal.sweep-first-requires-claus
 sweep-first-requires-clause-recs_in_bounds c =
     let first = c in
     let a = first.args in
-    let s = lists a.lens.now a.ops.now a.vals.now in
+    let s = lent a.lists in
     let g : Going = record { lock = a.lock; recs = a.recs; used = 0 } in
     let able : Able s a.count g = (first.requires.recs_value, omega (arith, first.well_formed)) in
     let x : Going = went_of a.count g (part_of s a.count a.n IdleOrWait g) in
@@ -54,7 +54,7 @@ pub sweep-second-requires-clause-able : goal.sweep-second-requires-clause-able
 sweep-second-requires-clause-able c =
     let first = c in
     let a = first.args in
-    let s = lists a.lens.now a.ops.now a.vals.now in
+    let s = lent a.lists in
     let g : Going = record { lock = a.lock; recs = a.recs; used = 0 } in
     let able : Able s a.count g = (first.requires.recs_value, omega (arith, first.well_formed)) in
     let one = c.sweep-first in
@@ -68,7 +68,7 @@ pub sweep-second-requires-clause-recs_in_bounds : goal.sweep-second-requires-cla
 sweep-second-requires-clause-recs_in_bounds c =
     let first = c in
     let a = first.args in
-    let s = lists a.lens.now a.ops.now a.vals.now in
+    let s = lent a.lists in
     let g : Going = record { lock = a.lock; recs = a.recs; used = 0 } in
     let able : Able s a.count g = (first.requires.recs_value, omega (arith, first.well_formed)) in
     let one = c.sweep-first in
@@ -82,7 +82,7 @@ pub sweep-requires-clause-able : goal.sweep-requires-clause-able
 sweep-requires-clause-able c =
     let first = c in
     let a = first.args in
-    let s = lists a.lens.now a.ops.now a.vals.now in
+    let s = lent a.lists in
     let g : Going = record { lock = a.lock; recs = a.recs; used = 0 } in
     let able : Able s a.count g = (first.requires.recs_value, omega (arith, first.well_formed)) in
     let one = c.sweep-first in
@@ -98,7 +98,7 @@ pub sweep-requires-clause-recs_in_bounds : goal.sweep-requires-clause-recs_in_bo
 sweep-requires-clause-recs_in_bounds c =
     let first = c in
     let a = first.args in
-    let s = lists a.lens.now a.ops.now a.vals.now in
+    let s = lent a.lists in
     let g : Going = record { lock = a.lock; recs = a.recs; used = 0 } in
     let able : Able s a.count g = (first.requires.recs_value, omega (arith, first.well_formed)) in
     let one = c.sweep-first in

@@ -10,7 +10,7 @@ returns-then-not-rest_tidy c =
     let a = c.args in
     let l = c.loop-k in
     let n = c.smaller-n.result in
-    let f = tidy_at a.lens.now a.ops.now a.vals.now a.pred in
+    let f = tidy_at a.lists.lens.now a.lists.ops.now a.lists.vals.now a.pred in
     pass_not f a.count n a.recs l.k l.invariant.2 l.invariant.3 c.loop-k-test.true (sym c.rest_tidy.ensures ∙ c.if-not-rest_tidy.true)
 
 pub loop-k-preserved : goal.loop-k-preserved
@@ -18,7 +18,7 @@ loop-k-preserved c =
     let a = c.args in
     let l = c.loop-k in
     let n = c.smaller-n.result in
-    let f = tidy_at a.lens.now a.ops.now a.vals.now a.pred in
+    let f = tidy_at a.lists.lens.now a.lists.ops.now a.lists.vals.now a.pred in
     let next = pass_on f a.count n a.recs l.k l.invariant.2 l.invariant.3 c.loop-k-test.true (sym c.rest_tidy.ensures ∙ c.if-not-rest_tidy.false) in
     (omega arith, l.invariant.1, l.invariant.2, next)
 
@@ -27,5 +27,5 @@ returns c =
     let a = c.args in
     let l = c.loop-k in
     let n = c.smaller-n.result in
-    let f = tidy_at a.lens.now a.ops.now a.vals.now a.pred in
+    let f = tidy_at a.lists.lens.now a.lists.ops.now a.lists.vals.now a.pred in
     pass_over f a.count n a.recs l.k l.invariant.2 l.invariant.3 c.loop-k-test.false

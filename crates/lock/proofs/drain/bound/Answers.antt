@@ -22,9 +22,9 @@ pub overflow_add-sum : goal.overflow_add-sum
 overflow_add-sum c =
     let a = c.args in
     let l = c.loop-k in
-    let words = words_at a.ops.now (start a.lens.now l.k) in
-    let len = get_or a.lens.now l.k 0 in
-    let is = (rw c.start_of-start.ensures at c.cost.ensures) ∙ cost_cut a.ops.now (start a.lens.now l.k) len (here a.recs l.k).at in
+    let words = words_at a.lists.ops.now (start a.lists.lens.now l.k) in
+    let len = get_or a.lists.lens.now l.k 0 in
+    let is = (rw c.start_of-start.ensures at c.cost.ensures) ∙ cost_cut a.lists.ops.now (start a.lists.lens.now l.k) len (here a.recs l.k).at in
     let most = cost_most words len (here a.recs l.k).at in
     let short = c.requires.by_index l.k c.loop-k-test.true in
     omega (arith, is, most, short)
@@ -33,9 +33,9 @@ pub overflow_add-sum-in-loop-k : goal.overflow_add-sum-in-loop-k
 overflow_add-sum-in-loop-k c =
     let a = c.args in
     let l = c.loop-k in
-    let words = words_at a.ops.now (start a.lens.now l.k) in
-    let len = get_or a.lens.now l.k 0 in
-    let is = (rw c.start_of-start.ensures at c.cost.ensures) ∙ cost_cut a.ops.now (start a.lens.now l.k) len (here a.recs l.k).at in
+    let words = words_at a.lists.ops.now (start a.lists.lens.now l.k) in
+    let len = get_or a.lists.lens.now l.k 0 in
+    let is = (rw c.start_of-start.ensures at c.cost.ensures) ∙ cost_cut a.lists.ops.now (start a.lists.lens.now l.k) len (here a.recs l.k).at in
     let most = cost_most words len (here a.recs l.k).at in
     let short = c.requires.by_index l.k c.loop-k-test.true in
     omega (arith, is, most, short, l.invariant)
@@ -44,17 +44,17 @@ pub loop-k-preserved : goal.loop-k-preserved
 loop-k-preserved c =
     let a = c.args in
     let l = c.loop-k in
-    let words = words_at a.ops.now (start a.lens.now l.k) in
-    let len = get_or a.lens.now l.k 0 in
-    let is = (rw c.start_of-start.ensures at c.cost.ensures) ∙ cost_cut a.ops.now (start a.lens.now l.k) len (here a.recs l.k).at in
+    let words = words_at a.lists.ops.now (start a.lists.lens.now l.k) in
+    let len = get_or a.lists.lens.now l.k 0 in
+    let is = (rw c.start_of-start.ensures at c.cost.ensures) ∙ cost_cut a.lists.ops.now (start a.lists.lens.now l.k) len (here a.recs l.k).at in
     let most = cost_most words len (here a.recs l.k).at in
     let short = c.requires.by_index l.k c.loop-k-test.true in
-    let n = length a.lens.now in
-    let next = sum_on (adds a.lens.now a.ops.now) n n a.recs l.k l.sum l.invariant.2 l.invariant.4 c.loop-k-test.true in
+    let n = length a.lists.lens.now in
+    let next = sum_on (adds a.lists.lens.now a.lists.ops.now) n n a.recs l.k l.sum l.invariant.2 l.invariant.4 c.loop-k-test.true in
     (omega arith, l.invariant.1, l.invariant.2, omega (arith, is, most, short, l.invariant), rw is next)
 
 pub returns-clause-value : goal.returns-clause-value
 returns-clause-value c =
     let a = c.args in
     let l = c.loop-k in
-    let n = length a.lens.now in sum_over (adds a.lens.now a.ops.now) n n a.recs l.k l.sum l.invariant.2 l.invariant.4 c.loop-k-test.false
+    let n = length a.lists.lens.now in sum_over (adds a.lists.lens.now a.lists.ops.now) n n a.recs l.k l.sum l.invariant.2 l.invariant.4 c.loop-k-test.false

@@ -17,7 +17,4 @@ adds lens ops j r = cost (words_at ops (start lens j)) (get_or lens j 0) r.at + 
 
 abbrev pub invariant-loop-k : goal.invariant-loop-k
 invariant-loop-k l =
-    (l.k ≤ length l.lens) × (length l.lens ≤ 16) × (length (take (length l.lens) l.recs) ≡ length l.lens) × (l.sum ≤ 195 * l.k) × Gathered (adds l.lens l.ops) (length l.lens) l.recs l.k l.sum
-
-abbrev pub decreases-loop-k : goal.decreases-loop-k
-decreases-loop-k l = length l.lens - l.k
+    (l.k ≤ length l.lists.lens.now) × (length l.lists.lens.now ≤ 16) × (length (take (length l.lists.lens.now) l.recs) ≡ length l.lists.lens.now) × (l.sum ≤ 195 * l.k) × Gathered (adds l.lists.lens.now l.lists.ops.now) (length l.lists.lens.now) l.recs l.k l.sum

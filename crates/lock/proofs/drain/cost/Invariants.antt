@@ -7,6 +7,3 @@ use Rattle.lock.proofs.drain.cost.Given as goal
 
 abbrev pub invariant-loop-k : goal.invariant-loop-k
 invariant-loop-k l = (l.sum + cost (words_at l.ops l.start) l.len l.k ≡ cost (words_at l.ops l.start) l.len l.at) × (l.len ≤ 64)
-
-abbrev pub decreases-loop-k : goal.decreases-loop-k
-decreases-loop-k l = l.len - l.k

@@ -3,7 +3,7 @@
 use Prim.Native.Nat.{ℕ, ◌+◌, ◌-◌, ◌*◌, ◌≤◌}
 use mathlib.Core.Path.{◌≡◌}
 use lib.ListN.{length, take}
-use Rattle.machine.specs.Lists.{Lent, lists, scripts_of}
+use Rattle.machine.specs.Lists.{Lent, lent, scripts_of}
 use Rattle.machine.specs.Drain.{sweep}
 use Rattle.lock.specs.Drain.{stop_of, UnderWay, going_of}
 use Rattle.lock.specs.declared.drain.Going.{Going}
@@ -16,9 +16,6 @@ Whole s stop fuel g k left = going_of s g (sweep (stop_of stop (scripts_of s)) (
 
 abbrev pub invariant-loop-k : goal.invariant-loop-k
 invariant-loop-k l =
-    let s = lists l.lens l.ops l.vals in
-    let n = length l.lens in
-    UnderWay s l.g × (Whole s l.stop l.fuel l.g l.k (n - l.k) ≡ Whole s l.stop l.fuel l.initial.g 0 (n - 0)) × (l.g.used ≤ l.initial.g.used + 4096 * l.k) × (l.k ≤ n)
-
-abbrev pub decreases-loop-k : goal.decreases-loop-k
-decreases-loop-k l = length l.lens - l.k
+    let s = lent l.lists in
+    let n = length s.lens in
+    UnderWay s l.g × (Whole s l.stop l.fuel l.g l.k (n - l.k) ≡ Whole s l.stop l.fuel l.initial.g 0 (n - 0)) × (l.g.used ≤ l.initial.g.used + 4096 * l.k)

@@ -1,12 +1,9 @@
 -- `run_ready` meets its contract. The loop's invariant: lock, records, counts and trace list are those after the first k entries.
 use Prim.Native.Nat.{◌-◌}
-use Rattle.machine.specs.Lists.{lists}
+use Rattle.machine.specs.Lists.{lent}
 use Rattle.lock.proofs.Running.{Going}
 use Rattle.lock.proofs.run.run_ready.Given as goal
 
 abbrev pub invariant-loop-k : goal.invariant-loop-k
 invariant-loop-k l =
-    Going (lists l.lens l.ops l.vals) l.initial.l l.initial.rs l.schedule l.n l.initial.trace l.l l.rs l.busy l.done l.k l.trace
-
-abbrev pub decreases-loop-k : goal.decreases-loop-k
-decreases-loop-k l = l.n - l.k
+    Going (lent l.lists) l.initial.l l.initial.rs l.schedule l.n l.initial.trace l.l l.rs l.busy l.done l.k l.trace

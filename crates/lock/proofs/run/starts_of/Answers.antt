@@ -10,14 +10,13 @@ use Rattle.lock.proofs.run.starts_of.Goals as goal
 
 pub loop-t-init : goal.loop-t-init
 unfolding total
-loop-t-init c = (omega arith, refl, omega arith, λ i h. absurd (omega arith))
+loop-t-init c = (omega arith, omega arith, λ i h. absurd (omega arith))
 
 pub loop-t-preserved : goal.loop-t-preserved
 loop-t-preserved c =
     let a = c.args in
     let l = c.loop-t in (
-      omega arith,
-      length-set l.starts l.t l.sum ∙ l.invariant.1,
-      omega (arith, c.smaller-sum.ensures, start_next a.lens.now l.t),
-      written (λ i. min (start a.lens.now i) a.most) l.starts l.t l.sum (omega arith) l.invariant.2 l.invariant.3,
+      length-set l.starts l.t l.sum ∙ l.invariant.0,
+      omega (arith, c.min-sum.ensures, start_next a.lens.now l.t),
+      written (λ i. min (start a.lens.now i) a.most) l.starts l.t l.sum (omega arith) l.invariant.1 l.invariant.2,
     )

@@ -7,7 +7,4 @@ use Rattle.lock.proofs.run.starts_of.Given as goal
 
 abbrev pub invariant-loop-t : goal.invariant-loop-t
 invariant-loop-t l =
-    (l.t ≤ length l.lens) × (length l.starts ≡ 16) × (l.sum ≡ min (start l.lens l.t) l.most) × ((i : ℕ) → i < l.t → get_or l.starts i 0 ≡ min (start l.lens i) l.most)
-
-abbrev pub decreases-loop-t : goal.decreases-loop-t
-decreases-loop-t l = length l.lens - l.t
+    (length l.starts ≡ 16) × (l.sum ≡ min (start l.lens l.t) l.most) × ((i : ℕ) → i < l.t → get_or l.starts i 0 ≡ min (start l.lens i) l.most)

@@ -14,7 +14,7 @@ returns c =
     let a = c.args in
     let l = c.loop-k in
     let n = c.smaller-n.result in
-    let f = sound_at a.lens.now a.ops.now a.pred a.top in
+    let f = sound_at a.lists.lens.now a.lists.ops.now a.pred a.top in
     pass_over f a.count n a.recs l.k l.invariant.2 l.invariant.3 c.loop-k-test.false
 
 pub loop-k-preserved : goal.loop-k-preserved
@@ -22,10 +22,10 @@ loop-k-preserved c =
     let a = c.args in
     let l = c.loop-k in
     let n = c.smaller-n.result in
-    let f = sound_at a.lens.now a.ops.now a.pred a.top in
+    let f = sound_at a.lists.lens.now a.lists.ops.now a.pred a.top in
     let r = here a.recs l.k in
     let len = ap (λ (len : ℕ). keeps_at a.pred a.top len c.word_of-o.result r) c.length_at-len.ensures in
-    let o = ap (λ (o : ℕ). keeps_at a.pred a.top (get_or a.lens.now l.k 0) o r) c.word_of-o.ensures in
+    let o = ap (λ (o : ℕ). keeps_at a.pred a.top (get_or a.lists.lens.now l.k 0) o r) c.word_of-o.ensures in
     let e : f l.k r ≡ true = sym (c.keeps.ensures ∙ len ∙ o) ∙ c.if-not-keeps.false in
     (omega arith, l.invariant.1, l.invariant.2, pass_on f a.count n a.recs l.k l.invariant.2 l.invariant.3 c.loop-k-test.true e)
 
@@ -34,9 +34,9 @@ returns-then-not-keeps c =
     let a = c.args in
     let l = c.loop-k in
     let n = c.smaller-n.result in
-    let f = sound_at a.lens.now a.ops.now a.pred a.top in
+    let f = sound_at a.lists.lens.now a.lists.ops.now a.pred a.top in
     let r = here a.recs l.k in
     let len = ap (λ (len : ℕ). keeps_at a.pred a.top len c.word_of-o.result r) c.length_at-len.ensures in
-    let o = ap (λ (o : ℕ). keeps_at a.pred a.top (get_or a.lens.now l.k 0) o r) c.word_of-o.ensures in
+    let o = ap (λ (o : ℕ). keeps_at a.pred a.top (get_or a.lists.lens.now l.k 0) o r) c.word_of-o.ensures in
     let e : f l.k r ≡ false = sym (c.keeps.ensures ∙ len ∙ o) ∙ c.if-not-keeps.true in
     pass_not f a.count n a.recs l.k l.invariant.2 l.invariant.3 c.loop-k-test.true e

@@ -8,21 +8,21 @@ pub weigh-all-requires : goal.weigh-all-requires
 weigh-all-requires c =
     let a = c.args in
     let l = c.loop-k in
-    sums_few a.lens.now a.ops.now a.count a.recs c.smaller-n.result l.k l.all l.invariant.2 l.invariant.3 l.invariant.1
+    sums_few a.lists.lens.now a.lists.ops.now a.count a.recs c.smaller-n.result l.k l.all l.invariant.2 l.invariant.3 l.invariant.1
 
 pub loop-k-preserved : goal.loop-k-preserved
 loop-k-preserved c =
     let a = c.args in
     let l = c.loop-k in
-    let next = sums_on a.lens.now a.ops.now a.count a.recs c.smaller-n.result l.k l.all l.invariant.2 l.invariant.3 c.loop-k-test.true in
+    let next = sums_on a.lists.lens.now a.lists.ops.now a.count a.recs c.smaller-n.result l.k l.all l.invariant.2 l.invariant.3 c.loop-k-test.true in
     (omega arith, l.invariant.1, l.invariant.2, rw (c.weigh-all.ensures, c.word_of-o.ensures) next)
 
 pub returns-clause-result_value : goal.returns-clause-result_value
 returns-clause-result_value c =
     let a = c.args in
-    let l = c.loop-k in sums_over a.lens.now a.ops.now a.count a.recs c.smaller-n.result l.k l.all l.invariant.2 l.invariant.3 c.loop-k-test.false
+    let l = c.loop-k in sums_over a.lists.lens.now a.lists.ops.now a.count a.recs c.smaller-n.result l.k l.all l.invariant.2 l.invariant.3 c.loop-k-test.false
 
 pub returns-clause-few : goal.returns-clause-few
 returns-clause-few c =
     let a = c.args in
-    let l = c.loop-k in sums_few a.lens.now a.ops.now a.count a.recs c.smaller-n.result l.k l.all l.invariant.2 l.invariant.3 l.invariant.1
+    let l = c.loop-k in sums_few a.lists.lens.now a.lists.ops.now a.count a.recs c.smaller-n.result l.k l.all l.invariant.2 l.invariant.3 l.invariant.1

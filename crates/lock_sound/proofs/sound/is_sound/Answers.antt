@@ -17,5 +17,5 @@ returns c =
       c.all_keep-kept.ensures,
       c.holds-moved.ensures,
       ap (λ (N : Tally). N.busy) counts,
-      mover_same a.lens.now a.ops.now a.vals.now (take a.count a.recs) a.lock.mover,
+      mover_same a.lists.lens.now a.lists.ops.now a.lists.vals.now (take a.count a.recs) a.lock.mover,
     )
