@@ -15,6 +15,7 @@ ghost use Rattle.scenario_read.specs.Feed.{fresh as freshState, over, end_of, st
 ghost use Rattle.scenario_read.specs.Code.{world_of, lock_world, other_world, line_world, fed_of, of_lock, to_stand, lock_moved, other_moved, now_stood, closed_with, gathered_in};
 
 use lock_words::names::NONE;
+use machine::Lists;
 use scenario_lines::bytes;
 use scenario_lines::bytes::Held;
 use scenario_pieces::{ENTRIES, Standing};
@@ -326,15 +327,12 @@ fn run_waiting(
     ensures result_value { let w = lock_world s p lens.now ops.now vals.now schedule.now from rows.old at in result ≡ fed_of (runs w) }
     ensures rows_after { let w = lock_world s p lens.now ops.now vals.now schedule.now from rows.old at in rows.new ≡ (runs w).out }
 {
-    let done = scenario_pieces::run_piece(
-        upto(lens, s.read.threads),
-        upto(ops, s.read.count),
-        upto(vals, s.read.count),
-        p,
-        upto(schedule, s.gathered),
-        rows,
-        at,
-    );
+    let lists = Lists {
+        lens: upto(lens, s.read.threads),
+        ops: upto(ops, s.read.count),
+        vals: upto(vals, s.read.count),
+    };
+    let done = scenario_pieces::run_piece(lists, p, upto(schedule, s.gathered), rows, at);
     after(State { gathered: 0, ..s }, done.standing, from, done.at)
 }
 

@@ -18,7 +18,7 @@ use lock::setup;
 use lock_words::names::{
     LONGEST_SCRIPT, MOST_THREADS, NONE, SCRIPT_TOO_LONG, THREAD_COUNT, WRONG_CODE,
 };
-use machine::Place;
+use machine::{Lists, Place};
 use scenario::Stage;
 use scenario_lines::Line;
 
@@ -234,19 +234,13 @@ fn ask(pred: Pred, top: u64, first: u64, none: &[u64], threads: u64) -> u64
     requires { threads ≤ length none.now }
     ensures { result ≡ setup_refusal pred top first (lists (take threads none.now) [] []) threads }
 {
-    let rec = lock_words::plain(0, Place::Idle);
-    let recs = [rec; 16];
-    let n = threads as usize;
-    let begun = setup::setup(
-        pred,
-        Count(top),
-        first,
-        &none[..n],
-        &none[..0],
-        &none[..0],
-        recs,
-        threads,
-    );
+    let lists = Lists {
+        lens: &none[..threads as usize],
+        ops: &[],
+        vals: &[],
+    };
+    let recs = [lock_words::plain(0, Place::Idle); 16];
+    let begun = setup::setup(pred, Count(top), first, lists, recs, threads);
     match begun.start {
         Ok(_) => NONE,
         Err(why) => why.number,

@@ -5,11 +5,6 @@ use Rattle.lock.specs.declared.setup.Begun.{Begun}
 use Rattle.scenario_stages.proofs.Asks.{start_no, answered}
 use Rattle.scenario_stages.proofs.ask.Goals as goal
 
-pub slice_bounds-setup-end : goal.slice_bounds-setup-end
-slice_bounds-setup-end c =
-    let a = c.args in
-    sym (length-take-le a.threads a.none.now c.requires)
-
 pub returns-in-Ok : goal.returns-in-Ok
 returns-in-Ok c =
     let a = c.args in
