@@ -6,6 +6,7 @@ mod run_lines;
 
 ghost use Rattle.std.specs.Prelude.{◌≡◌, ◌-◌, ◌^◌, take, replicate, if◌then◌else◌, nat_lt, ◌==◌, ◌&&◌, ◌||◌, not};
 ghost use Rattle.std.proofs.lemmas.List.Edits.{sets};
+ghost use Rattle.std.specs.Option.{is_none};
 ghost use Rattle.scenario_lines.specs.Judge.{judge};
 ghost use Rattle.scenario_lines.specs.Held.{view};
 ghost use Rattle.scenario_stages.specs.Kept.{on_line, lens_after, ops_after, vals_after};
@@ -14,7 +15,6 @@ ghost use Rattle.scenario_read.specs.declared.Move.TheVariants.{Line as ALine, C
 ghost use Rattle.scenario_read.specs.Feed.{fresh as freshState, over, end_of, stop_of, is_end, is_full, ready, roomy_move, what, rests, more, runs, takes, ends, feed};
 ghost use Rattle.scenario_read.specs.Code.{world_of, lock_world, other_world, line_world, fed_of, of_lock, to_stand, lock_moved, other_moved, now_stood, closed_with, gathered_in};
 
-use lock_words::names::NONE;
 use machine::Lists;
 use scenario_lines::bytes;
 use scenario_lines::bytes::Held;
@@ -187,9 +187,9 @@ fn after(state: State, standing: Standing, from: usize, at: usize) -> Fed
 
 // No entry comes after those that wait.
 fn is_read(s: State) -> bool
-    ensures { result ≡ (s.read.run_left == 0 && (not (s.read.refused == 0) || s.closed)) }
+    ensures { result ≡ (s.read.run_left == 0 && (not (is_none s.read.refused) || s.closed)) }
 {
-    s.read.run_left == 0 && (s.read.refused != NONE || s.closed)
+    s.read.run_left == 0 && (s.read.refused.is_some() || s.closed)
 }
 
 // All rows of the input are out.
@@ -203,11 +203,10 @@ fn is_over(s: State) -> bool
 fn end_of(s: State) -> Stop
     ensures { result ≡ end_of s }
 {
-    let r = s.read;
-    if r.refused != NONE {
-        return Stop::Refused(r.refused, r.line);
+    match s.read.refused {
+        Some(number) => Stop::Refused(number, s.read.line),
+        None => Stop::Over,
     }
-    Stop::Over
 }
 
 // ---- what comes next
@@ -236,7 +235,7 @@ fn roomy_move(s: State, len: usize, from: usize, last: bool) -> Move
     if 0 < s.read.run_left {
         return Move::Gather;
     }
-    if s.read.refused != NONE || s.closed {
+    if s.read.refused.is_some() || s.closed {
         return Move::Rest;
     }
     input_move(len, from, last)

@@ -7,7 +7,6 @@ ghost use Rattle.scenario_read.specs.Ahead.{AtLine, runs_here, ran_on, Ahead, On
 
 use super::peek::peek_run;
 use super::{PIECE, State, fill};
-use lock_words::names::NONE;
 use scenario::Stage;
 use scenario_lines::bytes::Held;
 use scenario_pieces::ENTRIES;
@@ -67,7 +66,7 @@ fn at_line(s: State) -> bool
     s.stood
         && !s.closed
         && s.read.run_left == 0
-        && s.read.refused == NONE
+        && s.read.refused.is_none()
         && s.read.stage == Stage::Runs
         && is_unheld(s.held)
 }

@@ -1,3 +1,4 @@
+pub mod Noted
 pub mod Clears
 pub mod Asks
 pub mod Few

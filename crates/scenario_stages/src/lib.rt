@@ -1,14 +1,14 @@
 // A scenario file's lines, taken one by one into what is read so far: its refusal, or what it adds.
 #![tactic(auto)]
 
-ghost use Rattle.std.specs.Prelude.{◌≡◌, ◌≤◌, [], length, take, replicate, if◌then◌else◌, nat_lt, slice_set};
+ghost use Rattle.std.specs.Prelude.{◌≡◌, ◌≤◌, [], length, take, replicate, if◌then◌else◌, nat_lt, slice_set, None};
 ghost use Rattle.scenario_lines.specs.declared.Line.TheVariants.{Header, BadNumber, Lock, Pred as PredLine, Op, Run};
 ghost use Rattle.machine.specs.Lists.{lists};
 ghost use Rattle.machine.specs.Setup.{setup_refusal};
 ghost use Rattle.scenario.specs.Names.{wrong_line};
 ghost use Rattle.scenario.specs.Scenario.{pred_of};
 ghost use Rattle.scenario.specs.Refused.{stage_no, at, misplaced};
-ghost use Rattle.scenario_stages.specs.Kept.{nothing_read, outline, counted_on, op_number, refusal_at, refused_by, after_line, on_line, at_end};
+ghost use Rattle.scenario_stages.specs.Kept.{nothing_read, outline, keeping, counted_on, op_number, refusal_at, refused_by, after_line, on_line, at_end};
 ghost use Rattle.scenario_stages.specs.Kept.{cleared, lens_with, ops_with, vals_with, unless_refused, lens_after, ops_after, vals_after};
 
 use atomic::Count;
@@ -32,8 +32,8 @@ const WRONG_LINE: u64 = 32;
 pub struct Read {
     // How many lines were read, modulo 2^64.
     pub line: u64,
-    // The number of the refusal, 0 for none; it is at the line counted.
-    pub refused: u64,
+    // The number of the refusal; it is at the line counted.
+    pub refused: Option<u64>,
     // Which lines may come next.
     pub stage: Stage,
     // The lock line: M, the first value, the number of threads.
@@ -57,7 +57,7 @@ pub fn begin() -> Read
 {
     Read {
         line: 0,
-        refused: NONE,
+        refused: None,
         stage: Stage::Header,
         top: 0,
         first: 0,
@@ -79,7 +79,7 @@ pub fn on_line(r: Read, l: Line, lens: &mut [u64], ops: &mut [u64], vals: &mut [
     ensures ops_after { ops.new ≡ ops_after r l lens.old ops.old }
     ensures vals_after { vals.new ≡ vals_after r l lens.old vals.old }
 {
-    if r.refused != NONE {
+    if r.refused.is_some() {
         return r;
     }
     match l {
@@ -99,7 +99,7 @@ pub fn on_line(r: Read, l: Line, lens: &mut [u64], ops: &mut [u64], vals: &mut [
 pub fn at_end(r: Read) -> Read
     ensures { result ≡ at_end r }
 {
-    if r.refused == NONE && misses(r.stage) {
+    if r.refused.is_none() && misses(r.stage) {
         refuse(r, WRONG_LINE)
     } else {
         r
@@ -283,18 +283,18 @@ fn refuse(r: Read, k: u64) -> Read
     ensures { result ≡ refused_by r k }
 {
     Read {
-        refused: k,
+        refused: Some(k),
         ..counted(r)
     }
 }
 
 // A line is counted, which is not refused and adds no entries; all else is as before it.
 fn counted(r: Read) -> Read
-    ensures { result ≡ refused_by r 0 }
+    ensures { result ≡ keeping (counted_on r.line) None (outline r) r.count 0 0 }
 {
     Read {
         line: r.line.wrapping_add(1),
-        refused: NONE,
+        refused: None,
         run_thread: 0,
         run_left: 0,
         ..r
