@@ -39,7 +39,7 @@ pub struct State {
     pub closed: bool,
 }
 
-// What comes next.
+// What comes next. It stays an enum: `next_of` and `moved` of specs/Feed, and what is promised of them, speak of it.
 #[derive(Clone, Copy)]
 pub enum Move {
     Stand,
@@ -149,6 +149,7 @@ pub fn feed(
     let mut i = from;
     let mut k = at;
     let mut turns = u64::MAX;
+    // No `for`: run lines that are read ahead take several turns at once.
     while 0 < turns {
         let ran = run_lines::runs_first(s, line, schedule, chunk, i, rows.len(), k, turns);
         s = ran.state;

@@ -108,6 +108,7 @@ fn take_runs(line: &mut [u8; 80], schedule: &mut [u64], chunk: &[u8], first: Run
     ensures { Ahead chunk.now first line.old schedule.old result line.new schedule.new }
 {
     let mut r = first;
+    // No `for`: a line takes as many places as it says.
     while r.gathered < ENTRIES && 3 <= r.turns {
         let Some(p) = peek_run(chunk, r.at) else {
             return r;

@@ -216,7 +216,7 @@ fn on_run(r: Read, t: u64, times: u64) -> Read
     }
 }
 
-// ---- the refusals
+// ---- the refusals: numbers with 0 for none, as `setup_refusal` and `op_number`, which the contracts name, have them
 
 // 1 to 4: what setup answers where no thread has an operation.
 fn setup_number(pred: Pred, top: u64, first: u64, threads: u64) -> u64
