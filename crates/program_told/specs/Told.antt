@@ -1,4 +1,5 @@
 -- What is told of a refused line: how far the scenario was read, how long the line is, and its bytes.
+use Rattle.std.specs.Option.{is_none}
 use Rattle.std.specs.Prelude.{ℕ, min, Bool, false, cond, not, List, [], ◌∷◌, ◌++◌, take, ◌==◌}
 use Rattle.scenario_lines.specs.Ascii.{bytes}
 use Rattle.scenario_lines.specs.Bytes.{longest}
@@ -34,7 +35,7 @@ missing before after closed = cond closed (not (after == counted_on before)) fal
 -- refused, and where it is missing
 abbrev pub refused_length : Read → Held → Read → Bool → List ℕ → ℕ
 refused_length earlier h r closed bs =
-    cond (r.refused == 0) 0 (cond (missing earlier.line r.line closed) 0 (last_length h bs closed))
+    cond (is_none r.refused) 0 (cond (missing earlier.line r.line closed) 0 (last_length h bs closed))
 
 -- ---- the text
 -- numbers, each with a comma before it

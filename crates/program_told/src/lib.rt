@@ -8,7 +8,6 @@ ghost use Rattle.scenario_text.specs.Lines.{break};
 ghost use Rattle.program_told.specs.Turn.{length_in_turn, told_end, told_after};
 ghost use Rattle.program_told.specs.Told.{anew, through, last_length, missing, refused_length, listed, read_numbers, refused_bytes, read_text};
 
-use lock_words::names::NONE;
 use program_chunks::Input;
 use program_intake::{Came, Intake};
 use scenario_lines::bytes::Held;
@@ -62,7 +61,7 @@ pub fn refused_length(
 ) -> usize
     ensures { result ≡ refused_length earlier held read closed (drop from chunk.now) }
 {
-    if read.refused == NONE {
+    if read.refused.is_none() {
         return 0;
     }
     if is_missing(earlier.line, read.line, closed) {

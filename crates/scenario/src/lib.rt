@@ -1,7 +1,7 @@
 // The stage of a scenario file: which lines may come next. What is read and what is printed stands in specs/.
 #![tactic(auto)]
 
-#[derive(Clone, Copy)]
+#[derive(Clone, Copy, PartialEq, Eq, PartialOrd, Ord)]
 pub enum Stage {
     Header,
     Lock,

@@ -25,9 +25,11 @@ pub six_each : (s : Lent) (p : Standing) (es : List ℕ) → length (words_in s 
 six_each s p es = words_length (piece_ran s p es).rows (length (piece es)) (rows_length (scripts_of s) p.lock (recs_of s p) (piece es))
 
 -- the test of the room, made of the least of the most entries and the entries
-pub room_so : (es out : List ℕ) (at n : ℕ) (b t : Bool) → n ≡ min most_entries (length es) → b ≡ leb (at + row_words * n) (length out) → b ≡ t
+pub room_so : (es out : List ℕ) (at n : ℕ) (b t : Bool) → n ≡ min (length es) most_entries → b ≡ leb (at + row_words * n) (length out) → b ≡ t
     → has_room es out at ≡ t
-room_so es out at n b t least test is = rw (length-take most_entries es, ← least) (sym test ∙ is)
+room_so es out at n b t least test is =
+    let same : length (piece es) ≡ n = omega (arith, length-take most_entries es, least) in
+    rw same (sym test ∙ is)
 
 -- the list of rows, and the place from which on it is lent
 module _ (s : Lent) (p : Standing) (es out : List ℕ) (at : ℕ) (room : at + row_words * length (piece es) ≤ length out) where

@@ -31,27 +31,19 @@ pub struct Left {
 pub fn at_first(pred: Pred, top: u64, first: u64) -> Standing
     ensures { result ≡ first_of pred top first }
 {
-    let lock = lock_words::unused(pred, Count(top), first);
-    let rec = lock_words::plain(0, Place::Idle);
     Standing {
-        lock,
-        recs: [rec; 16],
+        lock: lock_words::unused(pred, Count(top), first),
+        recs: [lock_words::plain(0, Place::Idle); 16],
     }
 }
 
 // The first entries, as many as a piece has, are run, a record for each script, and their rows stored from the word `at` on. Where there is no
 // room for so many rows, or the run is refused, all stays as it is.
-pub fn run_piece(
-    lists: Lists,
-    s: Standing,
-    entries: &[u64],
-    rows: &mut [u64],
-    at: usize,
-) -> Left
+pub fn run_piece(lists: Lists, s: Standing, entries: &[u64], rows: &mut [u64], at: usize) -> Left
     ensures value { result ≡ left_of (lent lists.entry) s entries.now rows.old at }
     ensures rows_after { rows.new ≡ stored_of (lent lists.entry) s entries.now rows.old at }
 {
-    let n = lock_words::smaller(ENTRIES, entries.len() as u64) as usize;
+    let n = entries.len().min(ENTRIES as usize);
     if scenario_text::has_room(rows.len(), at, ROW_WORDS * n) {
         run_there(lists, s, entries, rows, at)
     } else {
@@ -61,31 +53,26 @@ pub fn run_piece(
 
 // Where there is room. The rows are lent on from there, so that none is copied. A run that is refused has none, and leaves the lock and the
 // records.
-fn run_there(
-    lists: Lists,
-    s: Standing,
-    entries: &[u64],
-    rows: &mut [u64],
-    at: usize,
-) -> Left
+fn run_there(lists: Lists, s: Standing, entries: &[u64], rows: &mut [u64], at: usize) -> Left
     requires { at + 6 * length (piece entries.now) ≤ length rows.old }
     ensures value { result ≡ ran_left (lent lists.entry) s entries.now at }
     ensures rows_after { rows.new ≡ ran_stored (lent lists.entry) s entries.now rows.old at }
 {
-    let lock = s.lock;
-    let recs = s.recs;
     let ran = run::run(
         lists,
-        lock,
-        recs,
+        s.lock,
+        s.recs,
         lists.lens.len() as u64,
         entries,
         ENTRIES,
         &mut rows[at..],
     );
-    let end = at + ROW_WORDS * ran.n as usize;
-    let lock = ran.lock;
     let recs = ran.recs;
-    let standing = Standing { lock, recs };
-    Left { standing, at: end }
+    Left {
+        standing: Standing {
+            lock: ran.lock,
+            recs,
+        },
+        at: at + ROW_WORDS * ran.n as usize,
+    }
 }

@@ -15,27 +15,19 @@ use scenario_text::{REFUSAL, ROW_BYTES};
 pub fn has_room(len: usize, at: usize, n: usize) -> bool
     ensures { result ≡ nat_le (at + (148 * n + 51)) len }
 {
-    if len < at {
-        return false;
-    }
-    let left = len - at;
-    if left < REFUSAL {
-        return false;
-    }
-    n <= (left - REFUSAL) / ROW_BYTES
+    at <= len && REFUSAL <= len - at && n <= (len - at - REFUSAL) / ROW_BYTES
 }
 
 // The first n rows, of which the first has the number `first`, are stored from `at` on, then the refusal, where the reader was stopped by one, and
 // the place after them is returned. Where there are not so many rows, or their text might have no room, nothing is stored.
+#[tactic(auto, unfolding(crate::specs::Prints::place_of, crate::specs::Prints::stored_of))]
 pub fn put_more(first: u64, rows: &[u64], n: usize, stop: Stop, out: &mut [u8], at: usize) -> usize
     ensures value { result ≡ place_of first rows.now n stop out.old at }
     ensures out_after { out.new ≡ stored_of first rows.now n stop out.old at }
 {
-    if scenario_text::has_rows(rows.len(), n) {
-        if has_room(out.len(), at, n) {
-            let end = write_rows(rows, n, first, out, at);
-            return put_stop(stop, out, end);
-        }
+    if scenario_text::has_rows(rows.len(), n) && has_room(out.len(), at, n) {
+        let end = write_rows(rows, n, first, out, at);
+        return put_stop(stop, out, end);
     }
     at
 }
@@ -46,10 +38,8 @@ pub fn put_stop(stop: Stop, out: &mut [u8], at: usize) -> usize
     ensures out_after { out.new ≡ stored 51 out.old at (stop_text stop) }
 {
     match stop {
-        Stop::Wants => at,
-        Stop::Full => at,
         Stop::Refused(number, line) => scenario_text::put_refusal(out, at, number, line),
-        Stop::Over => at,
+        _ => at,
     }
 }
 
@@ -60,12 +50,10 @@ fn write_rows(trace: &[u64], n: usize, first: u64, out: &mut [u8], at: usize) ->
 {
     let mut row = first;
     let mut p = at;
-    let mut k = 0;
-    while k < n {
+    for k in 0..n {
         let r = row_at(trace, ROW_WORDS * k);
         p = scenario_text::put_row(out, p, row, r);
-        row = std::num::wrapping_add_u64(row, 1);
-        k += 1;
+        row = row.wrapping_add(1);
     }
     p
 }

@@ -1,4 +1,7 @@
 -- What comes next, with what is known of the state where it does. Assumes nothing.
+use Rattle.std.specs.Prelude.{None}
+use Rattle.std.specs.Option.{is_none}
+use Rattle.scenario_stages.proofs.Noted.{none_is}
 use Prim.Native.Nat.{ℕ, ◌+◌, ◌<◌, ◌≤◌}
 use mathlib.Core.Bool.{Bool, true, false, ◌||◌, ◌&&◌, not, cond, true≢false, false≢true}
 use mathlib.Core.Path.{◌≡◌, refl, sym, ◌∙◌}
@@ -23,7 +26,7 @@ Wide w = w.at + most_words ≤ length w.out
 -- a line, or the end of the input, may be taken
 pub record Open (s : State) : Type 0 where
   pub left : s.read.run_left ≡ 0
-  pub refused : s.read.refused ≡ 0
+  pub refused : s.read.refused ≡ None
   pub closed : s.closed ≡ false
 
 pub data Chose (chunk : List ℕ) (final : Bool) (w : World) : Move → Type 0 where
@@ -75,13 +78,13 @@ module _ (chunk : List ℕ) (final : Bool) (w : World) (wide : Wide w) where
   s = w.state
 
   -- nothing waits, where all that was gathered would be run
-  nothing_waits : ready s ≡ false → s.read.run_left ≡ 0 → (not (eqb s.read.refused 0) || s.closed) ≡ true → s.gathered ≡ 0
+  nothing_waits : ready s ≡ false → s.read.run_left ≡ 0 → (not (is_none s.read.refused) || s.closed) ≡ true → s.gathered ≡ 0
   nothing_waits e left why =
-      let b = none (leb most_entries s.gathered) (ltb 0 s.gathered) (eqb s.read.run_left 0) (not (eqb s.read.refused 0) || s.closed) e
+      let b = none (leb most_entries s.gathered) (ltb 0 s.gathered) (eqb s.read.run_left 0) (not (is_none s.read.refused) || s.closed) e
       (eq-eqb s.read.run_left 0 left) why in
       omega (arith, ltb-false 0 s.gathered b)
 
-  all_out : (not (eqb s.read.refused 0) || s.closed) ≡ true → s.gathered ≡ 0 → s.read.run_left ≡ 0 → over s ≡ true
+  all_out : (not (is_none s.read.refused) || s.closed) ≡ true → s.gathered ≡ 0 → s.read.run_left ≡ 0 → over s ≡ true
   unfolding over
   all_out why g l = rw (g, l) why
 
@@ -98,29 +101,29 @@ module _ (chunk : List ℕ) (final : Bool) (w : World) (wide : Wide w) where
   next_line = cond s.closed Rest (cond (ltb w.from (length chunk)) ALine (cond final Close Rest))
 
   abbrev next_refusal : Move
-  next_refusal = cond (not (eqb s.read.refused 0)) Rest next_line
+  next_refusal = cond (not (is_none s.read.refused)) Rest next_line
 
   abbrev next_entries : Move
   next_entries = cond (ready s) Piece (cond (ltb 0 s.read.run_left) Gather next_refusal)
 
-  at_closed : (b : Bool) → s.closed ≡ b → ready s ≡ false → s.read.run_left ≡ 0 → s.read.refused ≡ 0
+  at_closed : (b : Bool) → s.closed ≡ b → ready s ≡ false → s.read.run_left ≡ 0 → s.read.refused ≡ None
       → Chose chunk final w (cond b Rest (cond (ltb w.from (length chunk)) ALine (cond final Close Rest)))
   at_closed true e unready left fine =
-      let why = or_right (not (eqb s.read.refused 0)) s.closed e in
+      let why = or_right (not (is_none s.read.refused)) s.closed e in
       Chose.done (all_out why (nothing_waits unready left why) left)
   at_closed false e unready left fine = at_line (ltb w.from (length chunk)) refl (record { left = left; refused = fine; closed = e })
 
-  at_refused : (b : Bool) → eqb s.read.refused 0 ≡ b → ready s ≡ false → s.read.run_left ≡ 0
+  at_refused : (b : Bool) → is_none s.read.refused ≡ b → ready s ≡ false → s.read.run_left ≡ 0
       → Chose chunk final w (cond (not b) Rest next_line)
-  at_refused true e unready left = at_closed s.closed refl unready left (eqb-true s.read.refused 0 e)
-  at_refused false e unready left = let why : (not (eqb s.read.refused 0) || s.closed) ≡ true = rw e refl in Chose.done (all_out why (nothing_waits unready left why) left)
+  at_refused true e unready left = at_closed s.closed refl unready left (none_is s.read.refused e)
+  at_refused false e unready left = let why : (not (is_none s.read.refused) || s.closed) ≡ true = rw e refl in Chose.done (all_out why (nothing_waits unready left why) left)
 
   at_gather : (b : Bool) → ltb 0 s.read.run_left ≡ b → ready s ≡ false → (ltb 0 s.read.run_left ≡ true → s.stood ≡ true)
       → Chose chunk final w (cond b Gather next_refusal)
   at_gather true e unready there =
       Chose.gather (ltb-true 0 s.read.run_left e) (leb-false most_entries s.gathered (or_left (leb most_entries s.gathered) _ unready)) (there e)
   at_gather false e unready there =
-      at_refused (eqb s.read.refused 0) refl unready (omega (arith, ltb-false 0 s.read.run_left e))
+      at_refused (is_none s.read.refused) refl unready (omega (arith, ltb-false 0 s.read.run_left e))
 
   at_piece : (b : Bool) → ready s ≡ b → (ltb 0 s.read.run_left ≡ true → s.stood ≡ true)
       → Chose chunk final w (cond b Piece (cond (ltb 0 s.read.run_left) Gather next_refusal))

@@ -1,4 +1,5 @@
 -- Once all is out, a session has come to what the file of its bytes comes to. Assumes nothing.
+use Rattle.scenario_stages.proofs.Noted.{none_noted, number_noted}
 use Prim.Native.Nat.{ℕ, ◌≤◌}
 use mathlib.Core.Bool.{Bool, true, false, cond}
 use mathlib.Core.Path.{◌≡◌, refl, sym, ap, ◌∙◌}
@@ -35,7 +36,7 @@ module _ (bytes words : List ℕ) (w : World) (k : Kept bytes words w) (all : ov
 
   end_so : (room at : ℕ) → stop_of s room at ≡ end_of_file (bytes ++ others)
   unfolding stop_of
-  end_so room at = let (refused, line) = refused_so bytes words w k all others none in rw (all, refused, line)
+  end_so room at = let (refused, line) = refused_so bytes words w k all others none in rw (all, refused, line, none_noted file.refused, number_noted file.refused) refl
 
   scripts_so : 3 ≤ stage_no file.scenario.stage → lent_in w ≡ file.scenario.lent
   scripts_so late =

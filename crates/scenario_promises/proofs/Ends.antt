@@ -1,5 +1,9 @@
 -- Once all is out, the rows are those of the bytes, the refusal is theirs, and the lock and the records are what the whole schedule leaves. Assumes
 -- nothing.
+use Rattle.scenario_stages.specs.Means.{noted}
+use Rattle.std.specs.Prelude.{None}
+use Rattle.std.specs.Option.{is_none}
+use Rattle.scenario_stages.proofs.Noted.{some_is}
 use Prim.Native.Nat.{ℕ, ◌%◌, ◌≤◌}
 use mathlib.Core.Bool.{Bool, true, false, ◌||◌, ◌&&◌, not, true≢false, false≢true}
 use mathlib.Core.Path.{◌≡◌, refl, sym, ap, subst, ◌∙◌}
@@ -108,7 +112,7 @@ both false b e = absurd (false≢true e)
 
 -- nothing waits, and where the end was not taken there is a refusal
 abbrev pub Done : State → Type 0
-Done s = (s.gathered ≡ 0) × (s.read.run_left ≡ 0) × (s.closed ≡ false → s.read.refused ≢ 0)
+Done s = (s.gathered ≡ 0) × (s.read.run_left ≡ 0) × (s.closed ≡ false → s.read.refused ≢ None)
 
 unfine : (b c : Bool) → (not b || c) ≡ true → c ≡ false → b ≡ false
 unfine true c e f = absurd (true≢false (sym e ∙ f))
@@ -121,7 +125,7 @@ over_so s e =
     let (left, g) = both (eqb s.read.run_left 0) _ f in (
       eqb-true s.gathered 0 none,
       eqb-true s.read.run_left 0 left,
-      λ c. eqb-false s.read.refused 0 (unfine (eqb s.read.refused 0) s.closed g c),
+      λ c. some_is s.read.refused (unfine (is_none s.read.refused) s.closed g c),
     )
 
 module _ (bytes others line : List ℕ) (h : Held) (q : Reading) where
@@ -140,14 +144,14 @@ module _ (bytes words : List ℕ) (w : World) (k : Kept bytes words w) (all : ov
   pub reading_so : k.reading ≡ file
   reading_so =
       reading_by bytes others w.line s.held k.reading s.closed k.read_so
-      (λ c e. (over_so s all).2 c (k.holds.is.refused ∙ e)) none
+      (λ c e. (over_so s all).2 c (k.holds.is.refused ∙ ap noted e)) none
 
   pub all_rows : words ≡ file_words (bytes ++ others)
   all_rows =
       let (waits, left, _) = over_so s all in
       all_stored _ _ _ _ _ _ _ _ _ _ _ k.holds waits left ∙ ap (λ (q : Reading). words_of (rows_of q.scenario)) reading_so
 
-  pub refused_so : (s.read.refused ≡ file.refused) × (s.read.line ≡ file.line % counted_to)
+  pub refused_so : (s.read.refused ≡ noted file.refused) × (s.read.line ≡ file.line % counted_to)
   refused_so = rw (← reading_so) (k.holds.is.refused, k.holds.is.line)
 
   pub stands_so : s.stood ≡ true → listed (lent_in w) w.standing ≡ after_piece file.scenario.lent (at_first file.scenario) file.scenario.schedule

@@ -1,4 +1,5 @@
 -- A line, and the end of the input, keep what holds of the entries. Assumes nothing.
+use Rattle.std.specs.Option.{is_none}
 use Prim.Native.Nat.{ℕ, zero, suc, ◌<◌}
 use mathlib.Core.Bool.{Bool, true, false, cond}
 use mathlib.Core.Path.{◌≡◌, refl, ap, ◌∙◌}
@@ -42,7 +43,7 @@ module _ (r : Read) (lens : List ℕ) (there : r.stage ≡ AtRuns) where
 
   runs_stay : (l : Line) → (on_line r l lens).stage ≡ AtRuns
   unfolding on_line
-  runs_stay l = same_stage (eqb r.refused 0) r (after_line (refusal_at r lens l) r l) (runs_taken l) there
+  runs_stay l = same_stage (is_none r.refused) r (after_line (refusal_at r lens l) r l) (runs_taken l) there
 
 -- ---- a line
 grown : (past waits new : List ℕ) (n t : ℕ) → n ≡ 0 → (past ++ (waits ++ replicate n t)) ++ new ≡ past ++ (waits ++ new)
@@ -121,4 +122,4 @@ module _
   unfolding at_end
   end_holds =
       let m = end_means r lens ops vals q h.is in
-      end_by (ended q) m.1 (eqb r.refused 0) (ltb (stage_no r.stage) 3) refl m.0
+      end_by (ended q) m.1 (is_none r.refused) (ltb (stage_no r.stage) 3) refl m.0

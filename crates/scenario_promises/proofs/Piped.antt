@@ -1,4 +1,7 @@
 -- What is claimed of a scenario that arrives through a pipe. Assumes nothing.
+use Rattle.std.specs.Prelude.{None, unwrap_or}
+use Rattle.std.specs.Option.{is_none}
+use Rattle.scenario_stages.proofs.Noted.{none_is}
 use Prim.Native.Nat.{ℕ, zero, suc, ◌+◌, ◌%◌, ◌≤◌}
 use mathlib.Core.Bool.{Bool, true, false, ◌||◌, ◌&&◌, not, cond, true≢false, false≢true}
 use mathlib.Core.Path.{◌≡◌, refl, sym, ap, subst, ◌∙◌}
@@ -120,7 +123,7 @@ rests_alone false false false false false f h = refl
 no_chunk : (s : State) (len from : ℕ) → roomy_move s len from false ≡ Rest → roomy_move s 0 0 false ≡ Rest
 unfolding roomy_move
 no_chunk s len from h =
-    rests_alone (not s.stood && ltb 0 s.read.run_left) (ready s) (ltb 0 s.read.run_left) (not (eqb s.read.refused 0)) s.closed
+    rests_alone (not s.stood && ltb 0 s.read.run_left) (ready s) (ltb 0 s.read.run_left) (not (is_none s.read.refused)) s.closed
     (ltb from len) h
 
 with_room : (s : State) (len from room at : ℕ) (final : Bool) → at + most_words ≤ room → what s len from final room at ≡ Rest → roomy_move s len from final ≡ Rest
@@ -177,7 +180,7 @@ over_rests w len from final e =
     let (none, f) = both (eqb s.gathered 0) _ e in
     let (left, why) = both (eqb s.read.run_left 0) _ f in
     rw (eqb-true s.gathered 0 none, eqb-true s.read.run_left 0 left, none_comes s.stood)
-    (refused_or_closed (not (eqb s.read.refused 0)) s.closed _ why)
+    (refused_or_closed (not (is_none s.read.refused)) s.closed _ why)
   where
     none_comes : (b : Bool) → (not b && false) ≡ false
     none_comes true = refl
@@ -206,7 +209,7 @@ kept_on w v u k number line scenario count from held closed places lens ops vals
   vals = vals ∙ k.vals;
 }
 
-module _ (chunk : List ℕ) (final : Bool) (w : World) (refused : w.state.read.refused ≢ 0) where
+module _ (chunk : List ℕ) (final : Bool) (w : World) (refused : w.state.read.refused ≢ None) where
   move_keeps : (v : World) (m : Move) → Chose chunk final v m → KeepsRefusal w v → KeepsRefusal w (moved chunk v m)
   move_keeps v Stand c k = kept_on w v _ k refl refl refl refl refl refl refl refl refl refl refl
   move_keeps v Piece c k = kept_on w v _ k refl refl refl refl refl refl refl refl refl refl refl
@@ -235,11 +238,11 @@ pub same_refusal : SameRefusal
 unfolding stop_of
 same_refusal chunk final turns w refused all room at =
     let k = refusal_stays chunk final turns w refused in
-    rw (all, k.number, k.at_line) (told_so (eqb w.state.read.refused 0) refl)
+    rw (all, k.number, k.at_line) (told_so (is_none w.state.read.refused) refl)
   where
-    told_so : (b : Bool) → eqb w.state.read.refused 0 ≡ b
-        → cond b Over (Refused w.state.read.refused w.state.read.line) ≡ Refused w.state.read.refused w.state.read.line
-    told_so true e = absurd (refused (eqb-true w.state.read.refused 0 e))
+    told_so : (b : Bool) → is_none w.state.read.refused ≡ b
+        → cond b Over (Refused (unwrap_or w.state.read.refused 0) w.state.read.line) ≡ Refused (unwrap_or w.state.read.refused 0) w.state.read.line
+    told_so true e = absurd (refused (none_is w.state.read.refused e))
     told_so false e = refl
 
 -- ---- what a call tells
@@ -277,6 +280,10 @@ refused_by true r false n l number line e = (refl, refl, ap number_in e)
 refused_by false true f n l number line e = let no = ap which e in absurd (omega arith)
 refused_by false false f n l number line e = let no = ap which e in absurd (omega arith)
 
+not_none : (n l number line : ℕ) (b : Bool) → eqb n 0 ≡ b → Refused number line ≡ cond b Over (Refused n l) → number ≢ 0
+not_none n l number line true f e z = let no = ap which e in absurd (omega arith)
+not_none n l number line false f e z = eqb-false n 0 f (sym (ap number_in e) ∙ z)
+
 over_by : (o r f : Bool) (n l : ℕ) → stop o r f n l ≡ Over → (o ≡ true) × (f ≡ true)
 over_by true r true n l e = (refl, refl)
 over_by true r false n l e = let no = ap which e in absurd (omega arith)
@@ -284,7 +291,7 @@ over_by false true f n l e = let no = ap which e in absurd (omega arith)
 over_by false false f n l e = let no = ap which e in absurd (omega arith)
 
 told_by : (w : World)
-    → told w ≡ stop (over w.state) (leb (w.at + most_words) (length w.out)) (eqb w.state.read.refused 0) w.state.read.refused w.state.read.line
+    → told w ≡ stop (over w.state) (leb (w.at + most_words) (length w.out)) (is_none w.state.read.refused) (unwrap_or w.state.read.refused 0) w.state.read.line
 unfolding stop_of
 told_by w = refl
 
@@ -296,7 +303,7 @@ end_by false false f n l = refl
 
 pub ends_when_over : EndsWhenOver
 unfolding stop_of
-ends_when_over s room at = end_by (over s) (leb (at + most_words) room) (eqb s.read.refused 0) s.read.refused s.read.line
+ends_when_over s room at = end_by (over s) (leb (at + most_words) room) (is_none s.read.refused) (unwrap_or s.read.refused 0) s.read.line
 
 no_room_by : (o r f : Bool) (n l : ℕ) → is_full (stop o r f n l) ≡ (not o && not r)
 no_room_by true r true n l = refl
@@ -306,7 +313,7 @@ no_room_by false false f n l = refl
 
 pub full_without_room : FullWithoutRoom
 unfolding stop_of
-full_without_room s room at = no_room_by (over s) (leb (at + most_words) room) (eqb s.read.refused 0) s.read.refused s.read.line
+full_without_room s room at = no_room_by (over s) (leb (at + most_words) room) (is_none s.read.refused) (unwrap_or s.read.refused 0) s.read.line
 
 right : (a b : Type 0) → a ⊎ b → (a → b) → b
 right a b (inl h) f = f h
@@ -318,26 +325,28 @@ module _ (chunks : List (List ℕ)) (chunk : List ℕ) (final : Bool) (n : ℕ) 
 
   wants_so : told w ≡ Wants → (length chunk ≤ w.from) × (final ≡ false)
   wants_so e =
-      let (on, room) = wants_by (over s) (leb (w.at + most_words) (length w.out)) (eqb s.read.refused 0) _ _ (sym (told_by w) ∙ e) in
+      let (on, room) = wants_by (over s) (leb (w.at + most_words) (length w.out)) (is_none s.read.refused) _ _ (sym (told_by w) ∙ e) in
       right _ _ (k.taken (leb-true (w.at + most_words) (length w.out) room)) (λ all. absurd (true≢false (sym all ∙ on)))
 
   full_so : told w ≡ Full → Stopped w
   full_so e =
       leb-false (w.at + most_words) (length w.out)
-      (full_by (over s) (leb (w.at + most_words) (length w.out)) (eqb s.read.refused 0) _ _ (sym (told_by w) ∙ e))
+      (full_by (over s) (leb (w.at + most_words) (length w.out)) (is_none s.read.refused) _ _ (sym (told_by w) ∙ e))
 
   refused_so : (number line : ℕ) → told w ≡ Refused number line → (later : List (List ℕ)) → MayFollow final later
       → (words ≡ file_words (flatten (chunks ++ later))) × (Refused number line ≡ end_of_file (flatten (chunks ++ later))) × (number ≢ 0)
   refused_so number line e later none =
-      let (all, unfine, is) = refused_by (over s) (leb (w.at + most_words) (length w.out)) (eqb s.read.refused 0) _ _ number line (sym (told_by w) ∙ e) in
+      let (all, _, _) = refused_by (over s) (leb (w.at + most_words) (length w.out)) (is_none s.read.refused) _ _ number line (sym (told_by w) ∙ e) in
       let c = comes_later chunks chunk final n words w k all later none in
-      (c.rows, sym e ∙ c.end (length w.out) w.at, λ zero. eqb-false s.read.refused 0 unfine (is ∙ zero))
+      let same = sym e ∙ c.end (length w.out) w.at in
+      let file = reading_of (flatten (chunks ++ later)) in
+      (c.rows, same, not_none file.refused (file.line % counted_to) number line (eqb file.refused 0) refl same)
 
   ended_so : told w ≡ Over → (words ≡ file_words (flatten chunks)) × (end_of_file (flatten chunks) ≡ Over) × (final ≡ true)
   ended_so e =
-      let (all, fine) = over_by (over s) (leb (w.at + most_words) (length w.out)) (eqb s.read.refused 0) _ _ (sym (told_by w) ∙ e) in
+      let (all, fine) = over_by (over s) (leb (w.at + most_words) (length w.out)) (is_none s.read.refused) _ _ (sym (told_by w) ∙ e) in
       let c = comes_so chunks chunk final n words w k all in
-      let closed = unopened s.closed (λ un. (over_so s all).2 un (eqb-true s.read.refused 0 fine)) in
+      let closed = unopened s.closed (λ un. (over_so s all).2 un (none_is s.read.refused fine)) in
       (c.rows, sym (c.end (length w.out) w.at) ∙ e, (k.closes closed).1)
     where
       unopened : (b : Bool) → (b ≡ false → ⊥) → b ≡ true

@@ -1,4 +1,5 @@
 -- How a line may be judged; so no line adds more than 65,535 entries. Assumes nothing.
+use Rattle.std.specs.Option.{is_none}
 use Prim.Native.Nat.{ℕ, ◌<◌, ◌≤◌}
 use mathlib.Core.Bool.{Bool, true, false, ◌&&◌, cond}
 use mathlib.Core.Path.{◌≡◌, refl}
@@ -96,7 +97,7 @@ pub line_few : (r : Read) (l lens : List ℕ) → r.run_left ≤ most_times → 
 unfolding on_line
 line_few r l lens h =
     let k = refusal_at r lens (judge l) in
-    taken_few (eqb r.refused 0) (eqb k 0) r (judge l) k h (judge_few l)
+    taken_few (is_none r.refused) (eqb k 0) r (judge l) k h (judge_few l)
 
 ended_few : (b c : Bool) (r : Read) → r.run_left ≤ most_times → (cond b (cond c (refused_by r wrong_line) r) r).run_left ≤ most_times
 ended_few true true r h = omega arith
@@ -109,5 +110,5 @@ pub end_few : (d : Bool) (r : Read) (l lens : List ℕ) → r.run_left ≤ most_
 unfolding at_end
 end_few true r l lens h =
     let s = on_line r (judge l) lens in
-    ended_few (eqb s.refused 0) (ltb (stage_no s.stage) 3) s (line_few r l lens h)
-end_few false r l lens h = ended_few (eqb r.refused 0) (ltb (stage_no r.stage) 3) r h
+    ended_few (is_none s.refused) (ltb (stage_no s.stage) 3) s (line_few r l lens h)
+end_few false r l lens h = ended_few (is_none r.refused) (ltb (stage_no r.stage) 3) r h

@@ -1,5 +1,5 @@
 -- What is claimed of calls is so of the code: each statement cites a function's own contract, so that a change of the contract is a change here.
-use Rattle.std.specs.Prelude.{ℕ, suc, ◌+◌, ◌≤◌, ◌≡◌, ◌≢◌, Bool, true, false, List, [], ◌∷◌, ◌++◌, length, drop}
+use Rattle.std.specs.Prelude.{ℕ, suc, ◌+◌, ◌≤◌, ◌≡◌, ◌≢◌, Bool, true, false, List, [], ◌∷◌, ◌++◌, length, drop, None}
 use Rattle.scenario_lines.specs.Held.{took as took_line, taken_from, held_end, line_end}
 use Rattle.scenario_lines.specs.contracts.bytes.take_line as take
 use Rattle.scenario_lines.specs.contracts.bytes.finish as finish
@@ -75,7 +75,7 @@ AfterRefusal = FeedSays ChangesNothing
 
 -- and after every refusal it, its line, the scenario so far, what is held and the scripts stay, and nothing of the input is taken
 abbrev pub StaysRefused : List ℕ → Bool → World → World → Type 0
-StaysRefused chunk final w after = w.state.read.refused ≢ 0 → KeepsRefusal w after
+StaysRefused chunk final w after = w.state.read.refused ≢ None → KeepsRefusal w after
 
 abbrev pub RefusalKept : Type 2
 RefusalKept = FeedSays StaysRefused

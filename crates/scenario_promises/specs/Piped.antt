@@ -1,6 +1,6 @@
 -- A scenario that arrives through a pipe, in the words of the request: whatever way its bytes are cut, chunks of no bytes among them, it comes to the
 -- same rows, the same refusal with its line, and the same end as the file read at once; and after a refusal nothing changes any more.
-use Rattle.std.specs.Prelude.{ℕ, suc, ◌+◌, ◌%◌, ◌≤◌, ◌≡◌, ◌≢◌, Bool, true, false, ◌&&◌, not, cond, eqb, leb, length}
+use Rattle.std.specs.Prelude.{ℕ, suc, ◌+◌, ◌%◌, ◌≤◌, ◌≡◌, ◌≢◌, Bool, true, false, ◌&&◌, not, cond, eqb, leb, length, None, unwrap_or}
 use mathlib.Core.List.{List, [], ◌++◌, flatten}
 use Rattle.scenario_lines.specs.Bytes.{longest, feed as feed_bytes}
 use Rattle.scenario_lines.specs.Laws.{means}
@@ -136,14 +136,14 @@ pub record KeepsRefusal (w after : World) : Type 0 where
 
 abbrev pub RefusalStays : Type 0
 RefusalStays =
-    (chunk : List ℕ) (final : Bool) (turns : ℕ) (w : World) → w.state.read.refused ≢ 0 → KeepsRefusal w (feed chunk final turns w)
+    (chunk : List ℕ) (final : Bool) (turns : ℕ) (w : World) → w.state.read.refused ≢ None → KeepsRefusal w (feed chunk final turns w)
 
 -- so once its rows are out, it is told as the same refusal, whatever room is left
 abbrev pub SameRefusal : Type 0
 SameRefusal =
-    (chunk : List ℕ) (final : Bool) (turns : ℕ) (w : World) → w.state.read.refused ≢ 0
+    (chunk : List ℕ) (final : Bool) (turns : ℕ) (w : World) → w.state.read.refused ≢ None
     → let after = feed chunk final turns w in
-    over after.state ≡ true → (room at : ℕ) → stop_of after.state room at ≡ Refused w.state.read.refused w.state.read.line
+    over after.state ≡ true → (room at : ℕ) → stop_of after.state room at ≡ Refused (unwrap_or w.state.read.refused 0) w.state.read.line
 
 -- ---- what a call tells
 -- a caller asks the stop itself: it is an end exactly where all is out, and full exactly where rows are still to come and have no room

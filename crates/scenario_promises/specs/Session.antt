@@ -5,7 +5,7 @@ use Rattle.machine.specs.Run.{words_of}
 use Rattle.scenario.specs.Printed.{reading_of, rows_in}
 use Rattle.scenario.specs.Names.{counted_to}
 use Rattle.scenario.specs.Pieces.{at_first, after_piece}
-use Rattle.scenario_stages.specs.Means.{Room}
+use Rattle.scenario_stages.specs.Means.{Room, noted}
 use Rattle.scenario_pieces.specs.Piece.{most_entries}
 use Rattle.scenario_pieces.specs.Stands.{listed}
 use Rattle.scenario_read.specs.Feed.{World, fresh, most_words, lent_in, next_of, feed, over}
@@ -67,7 +67,7 @@ abbrev pub RefusedSo : Type 0
 RefusedSo =
     (bytes words : List ℕ) (w : World) → Session bytes words w → over w.state ≡ true → (others : List ℕ) → MayCome w others
     → let r = w.state.read in
-    (r.refused ≡ (reading_of (bytes ++ others)).refused) × (r.line ≡ (reading_of (bytes ++ others)).line % counted_to)
+    (r.refused ≡ noted (reading_of (bytes ++ others)).refused) × (r.line ≡ (reading_of (bytes ++ others)).line % counted_to)
 
 -- and the lock and the records are what the whole schedule leaves of them, where there is a run line
 abbrev pub StandsSo : Type 0

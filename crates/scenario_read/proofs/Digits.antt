@@ -1,10 +1,10 @@
 -- Digits and single bytes of a chunk, a byte at a time, make a number and a run line. Assumes nothing.
-use Rattle.std.proofs.Common.{◌≡◌, ℕ, suc, ◌+◌, ◌-◌, ◌*◌, ◌^◌, ◌<◌, ◌≤◌, Bool, true, false, ◌&&◌, List, [], ◌∷◌, ◌++◌, length, get_or, take, drop, sym, refl, ap, ◌∙◌, add-one, arith, take-append-drop, length-take-le, drop-cons, take-suc, lt-ltb, ne_eqb, le-leb}
+use Rattle.std.proofs.Common.{◌≡◌, ℕ, suc, ◌+◌, ◌-◌, ◌*◌, ◌^◌, ◌<◌, ◌≤◌, Bool, true, false, ◌&&◌, List, [], ◌∷◌, ◌++◌, length, get_or, take, drop, sym, refl, ap, ◌∙◌, add-one, arith, take-append-drop, length-take-le, take-suc, lt-ltb, ne_eqb, le-leb}
 use mathlib.Core.Bool.{false≢true}
 use lib.Seq.{slice, slice-cons, slice_empty, drop-append-le}
 use Rattle.std.specs.Prelude.{Some}
 use Rattle.scenario_lines.specs.Number.{digit, digits, number, plainly, decimal}
-use Rattle.scenario_read.specs.RunAt.{Four, NumberAt}
+use Rattle.scenario_read.specs.RunAt.{NumberAt}
 
 -- ---- parts of a list
 module _ (s : List ℕ) where
@@ -18,18 +18,6 @@ module _ (s : List ℕ) where
       ap (λ (n : ℕ). slice f n s) (add-one t)
       ∙ ap (drop f) (take-suc s t 0 k)
       ∙ drop-append-le f (take t s) (get_or s t 0 ∷ []) (rw (length-take-le t s (omega arith)) h)
-
--- ---- four bytes
-pub four_stand : (s : List ℕ) (at a b c d : ℕ) → 4 ≤ length s → at ≤ length s - 4
-    → get_or s at 0 ≡ a → get_or s (at + 1) 0 ≡ b → get_or s (at + 2) 0 ≡ c → get_or s (at + 3) 0 ≡ d → Four s at a b c d
-four_stand s at a b c d wide room ea eb ec ed =
-    let one : suc at ≡ at + 1 = omega arith in
-    let two : suc (at + 1) ≡ at + 2 = omega arith in
-    let three : suc (at + 2) ≡ at + 3 = omega arith in
-    let four : suc (at + 3) ≡ at + 4 = omega arith in (
-      omega arith,
-      rw (drop-cons s at 0 (omega arith), one, drop-cons s (at + 1) 0 (omega arith), two, drop-cons s (at + 2) 0 (omega arith), three, drop-cons s (at + 3) 0 (omega arith), four, ea, eb, ec, ed) refl,
-    )
 
 -- ---- a digit more
 pub is_digit : (b : ℕ) → 48 ≤ b → b ≤ 57 → digit b ≡ true

@@ -1,5 +1,4 @@
 pub mod Places
-pub mod Moves
 pub mod Turns
 pub mod Runs
 pub mod RunLine

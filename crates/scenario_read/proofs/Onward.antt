@@ -5,7 +5,6 @@ use Rattle.scenario_lines.specs.Bytes.{longest}
 use Rattle.scenario_lines.specs.Judge.{judge}
 use Rattle.scenario_lines.specs.Held.{unheld, held, took, taking, view}
 use Rattle.scenario_lines.specs.declared.Line.TheVariants.{Run}
-use Rattle.scenario_lines.specs.declared.bytes.Held.{Held}
 use Rattle.scenario_stages.specs.Kept.{counted_on}
 use Rattle.scenario_pieces.specs.Piece.{most_entries}
 use Rattle.scenario_read.specs.declared.State.{State}
@@ -83,9 +82,6 @@ module _ (s : State) (l : AtLine s) where
 
   pub same_here : (from turns : ℕ) → s ≡ ran_in s (runs_here s from turns)
   same_here from turns = same_in (runs_here s from turns)
-
-pub held_none : (h : Held) → h.len ≡ 0 → h.cr ≡ false → h.done ≡ false → h ≡ unheld
-held_none h a b c = λ i. record { len = a i; cr = b i; done = c i }
 
 pub onward_by : {chunk line schedule line' schedule' : List ℕ} (room at turns : ℕ) (s : State) (from : ℕ) {a b : Runs} {s' : State}
     → AtLine s → at + most_words ≤ room → a ≡ runs_here s from turns

@@ -1,34 +1,33 @@
--- Places of a list: the first of them, as far as there are places, one value stored again and again, and a part of another list. Assumes nothing.
-use Rattle.std.proofs.Common.{◌≡◌, ℕ, zero, suc, ◌+◌, ◌-◌, ◌<◌, ◌≤◌, min, List, [], ◌∷◌, length, get_or, take, set, replicate, refl, ap, ◌∙◌, add-one, arith}
-use lib.Seq.{slice, slice-cons, slice_empty, sets, set_out}
-
-pub take_as_far : (k n : ℕ) (l : List ℕ) → k ≡ min n (length l) → take k l ≡ take n l
-take_as_far zero zero l e = refl
-take_as_far zero (suc n) [] e = refl
-take_as_far zero (suc n) (x ∷ l) e = absurd (omega arith)
-take_as_far (suc k) zero l e = absurd (omega arith)
-take_as_far (suc k) (suc n) [] e = absurd (omega arith)
-take_as_far (suc k) (suc n) (x ∷ l) e = ap (λ (m : List ℕ). x ∷ m) (take_as_far k n l (omega arith))
+-- Places of a list: one value stored again and again, as far as there are places, and a part of another list. Assumes nothing.
+use Rattle.std.proofs.Common.{◌≡◌, ℕ, zero, suc, ◌+◌, ◌-◌, ◌<◌, ◌≤◌, min, List, [], ◌∷◌, ◌++◌, length, take, drop, set, replicate, sym, refl, ap, ◌∙◌, append_assoc, arith, length-set, length-take-le}
+use borrow.Rule.Slice.PartMut.{put_mid}
+use Rattle.std.proofs.lemmas.List.{length-replicate, length-drop, drop-drop, drop-take}
+use lib.Seq.{slice, sets, sets-eq, set_out}
 
 -- past the last place nothing is stored
 pub sets_out : (vs l : List ℕ) (k : ℕ) → length l ≤ k → sets l k vs ≡ l
 sets_out [] l k h = refl
 sets_out (v ∷ vs) l k h = ap (λ (m : List ℕ). sets m (suc k) vs) (set_out l k v h) ∙ sets_out vs l (suc k) (omega arith)
 
--- one of them is stored, and the others after it
-pub fills_one : (l : List ℕ) (k left v : ℕ) → 0 < left → sets (set l k v) (k + 1) (replicate (left - 1) v) ≡ sets l k (replicate left v)
-fills_one l k zero v h = absurd (omega arith)
-fills_one l k (suc left) v h =
-    let e : suc left - 1 ≡ left = omega arith in
-    rw (add-one, e) refl
+-- of one value as many as there are places
+as_far : (m n v : ℕ) (l : List ℕ) (k : ℕ) → m ≤ n → (m < n → length l ≤ k + m) → sets l k (replicate m v) ≡ sets l k (replicate n v)
+as_far zero zero v l k less all = refl
+as_far zero (suc n) v l k less all = sym (sets_out (replicate (suc n) v) l k (omega (arith, all (omega arith))))
+as_far (suc m) zero v l k less all = absurd (omega arith)
+as_far (suc m) (suc n) v l k less all = as_far m n v (set l k v) (suc k) (omega arith) (λ h. omega (arith, length-set l k v, all (omega arith)))
 
-pub fills_none : (l : List ℕ) (k left v : ℕ) → left ≤ 0 → sets l k (replicate left v) ≡ l
-fills_none l k zero v h = refl
-fills_none l k (suc left) v h = absurd (omega arith)
+pub fills_by : (l : List ℕ) (k n v m e : ℕ) → k < length l → m ≡ min n (length l - k) → e ≡ k + m → put_mid k (e - k) l (replicate (e - k) v) ≡ sets l k (replicate n v)
+fills_by l k n v m e h some end =
+    let short : e - k ≡ m = omega arith in
+    rw (short, ← as_far m n v l k (omega arith) (λ g. omega arith), sets-eq (replicate m v) l k (rw (length-replicate m v) (omega arith)), length-replicate m v, append_assoc, drop-drop m k l) refl
 
--- one byte of a part is stored, and the others after it
-pub copies_one : (l s : List ℕ) (k i to : ℕ) → i < to → to ≤ length s → sets (set l k (get_or s i 0)) (k + 1) (slice (i + 1) to s) ≡ sets l k (slice i to s)
-copies_one l s k i to h e = rw (slice-cons i to s 0 h e, add-one k, add-one i) refl
-
-pub copies_none : (l s : List ℕ) (k i to : ℕ) → i ≡ to → sets l k (slice i to s) ≡ l
-copies_none l s k i to e = rw (e, slice_empty to s) refl
+-- a part of another list, in the first places
+pub copies_by : (l s : List ℕ) (from to : ℕ) → from ≤ to → to ≤ length s → to - from ≤ length l
+    → take (to - from) (drop from s) ++ drop (to - from) l ≡ sets l 0 (slice from to s)
+copies_by l s from to up inside room =
+    let n = to - from in
+    let back : from + n ≡ to = omega arith in
+    let same : slice from to s ≡ take n (drop from s) = ap (λ (k : ℕ). drop from (take k s)) (sym back) ∙ drop-take from n s in
+    let long : length (take n (drop from s)) ≡ n = length-take-le n (drop from s) (omega (arith, length-drop from s)) in
+    let none : 0 + n ≡ n = omega arith in
+    rw (same, sets-eq (take n (drop from s)) l 0 (rw (long, none) room), long, none) refl

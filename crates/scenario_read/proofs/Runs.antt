@@ -1,6 +1,6 @@
 -- A run line whose entries have room is two moves, whatever chunk it is in: it is read, and its entries are gathered. So code may read such lines in
 -- a loop of its own, two turns a line. Assumes nothing.
-use Rattle.std.proofs.Common.{◌≡◌, ℕ, suc, ◌+◌, ◌-◌, ◌<◌, ◌≤◌, min, Bool, true, false, ◌&&◌, ◌||◌, ltb, leb, List, length, drop, replicate, refl, ap, ◌∙◌, arith, lt-ltb, ne_eqb, le-leb}
+use Rattle.std.proofs.Common.{◌≡◌, ℕ, suc, ◌+◌, ◌-◌, ◌<◌, ◌≤◌, min, Bool, true, false, ◌&&◌, ◌||◌, ltb, leb, List, length, drop, replicate, refl, ap, ◌∙◌, arith, lt-ltb, ne_eqb, le-leb, None}
 use borrow.Author.Tests.{lt-leb}
 use lib.Seq.{sets}
 use Rattle.scenario_lines.specs.Judge.{judge}
@@ -18,9 +18,9 @@ use Rattle.scenario_read.specs.Feed.{World, most_words, ready, roomy_move, what,
 
 -- ---- what a run line leaves of what is read
 abbrev pub run_read : Read → ℕ → ℕ → Read
-run_read r t n = keeping (counted_on r.line) 0 (with_run (outline r) t n) r.count t n
+run_read r t n = keeping (counted_on r.line) None (with_run (outline r) t n) r.count t n
 
-module _ (r : Read) (fine : r.refused ≡ 0) (stage : r.stage ≡ Runs) (t n : ℕ) (lens ops vals : List ℕ) where
+module _ (r : Read) (fine : r.refused ≡ None) (stage : r.stage ≡ Runs) (t n : ℕ) (lens ops vals : List ℕ) where
   pub on_run : on_line r (Run t n) lens ≡ run_read r t n
   unfolding on_line taken
   on_run = rw (fine, stage) refl
@@ -41,7 +41,7 @@ unready_by g x few e = rw (lt-leb most_entries g few, e) (go (ltb 0 g))
 pub record AtRuns (w : World) : Type 0 where
   pub wide : w.at + most_words ≤ length w.out
   pub stood : w.state.stood ≡ true
-  pub fine : w.state.read.refused ≡ 0
+  pub fine : w.state.read.refused ≡ None
   pub stage : w.state.read.stage ≡ Runs
   pub unclosed : w.state.closed ≡ false
   pub few : w.state.gathered < most_entries
@@ -111,14 +111,14 @@ module _ (chunk : List ℕ) (final : Bool) (w : World) (a : AtRuns w) (left : w.
     none = omega arith
 
     gathers_so : gathers (later w.state.gathered (run_read r t n) w.schedule)
-        ≡ later (w.state.gathered + n) (keeping (counted_on r.line) 0 (with_run (outline r) t n) r.count t 0)
+        ≡ later (w.state.gathered + n) (keeping (counted_on r.line) None (with_run (outline r) t n) r.count t 0)
         (sets w.schedule w.state.gathered (replicate n t))
     gathers_so = rw (all, none) refl
 
     pub two_moves : (turns : ℕ)
         → feed chunk final (suc (suc turns)) w
         ≡ feed chunk final turns
-        (later (w.state.gathered + n) (keeping (counted_on r.line) 0 (with_run (outline r) t n) r.count t 0)
+        (later (w.state.gathered + n) (keeping (counted_on r.line) None (with_run (outline r) t n) r.count t 0)
         (sets w.schedule w.state.gathered (replicate n t)))
     two_moves turns =
         one_move chunk final (suc turns) w ALine (next_line chunk final w a left there) refl

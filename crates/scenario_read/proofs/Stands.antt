@@ -1,16 +1,15 @@
 -- What was seen of a run line's parts in a chunk is that the run line stands there. Assumes nothing.
-use Rattle.std.proofs.Common.{◌≡◌, ℕ, suc, ◌+◌, ◌-◌, ◌<◌, ◌≤◌, List, ◌∷◌, ◌++◌, length, get_or, take, drop, sym, refl, ap, ◌∙◌, append_assoc, arith, length-append, drop-cons, take_at}
+use Rattle.std.proofs.Common.{◌≡◌, ℕ, ◌+◌, ◌-◌, ◌<◌, ◌≤◌, List, ◌∷◌, ◌++◌, length, take, drop, sym, ap, ◌∙◌, append_assoc, arith, length-append, take_at}
 use lib.Seq.{slice, length-slice}
 use Rattle.scenario_lines.specs.Bytes.{longest}
-use Rattle.scenario_lines.specs.Judge.{comma}
 use Rattle.scenario_lines.specs.Lines.{cr, lf}
 use Rattle.scenario_read.specs.RunAt.{Four, NumberAt, RunAt}
 use Rattle.scenario_read.proofs.RunLine.{run_line, no_return_so, says_run}
 use Rattle.scenario_read.proofs.Digits.{drop_slice}
 
 module _
-    (s : List ℕ) (from a b t n : ℕ) (begins : Four s from 114 117 110 44) (who : NumberAt s (from + 4) a t) (comes : a < length s)
-    (between : get_or s a 0 ≡ 44) (times : NumberAt s (a + 1) b n) (ends : Four s b 44 48 13 10) where
+    (s : List ℕ) (from a b t n : ℕ) (begins : Four s from 114 117 110 44) (who : NumberAt s (from + 4) a t)
+    (between : (a + 1 ≤ length s) × (drop a s ≡ 44 ∷ drop (a + 1) s)) (times : NumberAt s (a + 1) b n) (ends : Four s b 44 48 13 10) where
   abbrev d : List ℕ
   d = slice (from + 4) a s
 
@@ -25,11 +24,9 @@ module _
 
   whole_so : drop from s ≡ run_line d e ++ (cr ∷ lf ∷ drop (b + 4) s)
   whole_so =
-      let next : suc a ≡ a + 1 = omega arith in
       let first = drop_slice s (from + 4) a (omega (arith, who.onward)) who.inside in
-      let second : drop a s ≡ comma ∷ drop (a + 1) s = drop-cons s a 0 comes ∙ rw (between, next) refl in
       let third = drop_slice s (a + 1) b (omega (arith, times.onward)) times.inside in
-      begins.1 ∙ rw (first, second, third, ends.1) (simp append_assoc)
+      begins.1 ∙ rw (first, between.1, third, ends.1) (simp append_assoc)
 
   text_so : slice from (b + 2) s ≡ run_line d e
   text_so =

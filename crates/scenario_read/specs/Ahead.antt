@@ -1,5 +1,5 @@
 -- What reading run lines ahead leaves: the moves that are left lead from there to where they led from before it.
-use Rattle.std.specs.Prelude.{◌≡◌, ℕ, ◌+◌, ◌<◌, ◌≤◌, Bool, true, false, List, length}
+use Rattle.std.specs.Prelude.{◌≡◌, ℕ, ◌+◌, ◌<◌, ◌≤◌, Bool, true, false, List, length, None}
 use Rattle.scenario_lines.specs.Held.{unheld}
 use Rattle.scenario.specs.Scenario.{with_run}
 use Rattle.scenario.specs.declared.Stage.TheVariants.{Runs as AtRuns}
@@ -15,7 +15,7 @@ pub record AtLine (s : State) : Type 0 where
   pub held : s.held ≡ unheld
   pub stood : s.stood ≡ true
   pub unclosed : s.closed ≡ false
-  pub fine : s.read.refused ≡ 0
+  pub fine : s.read.refused ≡ None
   pub stage : s.read.stage ≡ AtRuns
   pub left : s.read.run_left ≡ 0
 
@@ -30,7 +30,7 @@ ran_on s r =
 
 -- the same, where a run line may come after it
 abbrev pub ran_in : State → Runs → State
-ran_in s r = state_with s unheld (keeping r.line 0 (with_run (outline s.read) r.thread 0) s.read.count r.thread 0) r.gathered
+ran_in s r = state_with s unheld (keeping r.line None (with_run (outline s.read) r.thread 0) s.read.count r.thread 0) r.gathered
 
 -- from a to b, with the 80 places and the schedule at each, whatever the rest of the world is
 pub record Ahead (chunk : List ℕ) (a : Runs) (line schedule : List ℕ) (b : Runs) (line' schedule' : List ℕ) : Type 0 where

@@ -1,5 +1,6 @@
 -- One move after another: what comes next, what each move does, and what a call does with a chunk and a list for rows.
-use Rattle.std.specs.Prelude.{ℕ, zero, suc, ◌+◌, ◌-◌, ◌*◌, min, Bool, true, false, cond, not, ◌&&◌, ◌||◌, List, length, take, drop, replicate, ◌==◌, nat_le, nat_lt}
+use Rattle.std.specs.Option.{is_none}
+use Rattle.std.specs.Prelude.{ℕ, zero, suc, ◌+◌, ◌-◌, ◌*◌, min, Bool, true, false, cond, not, ◌&&◌, ◌||◌, List, length, take, drop, replicate, ◌==◌, nat_le, nat_lt, unwrap_or}
 use Rattle.std.proofs.lemmas.List.Edits.{sets}
 use Rattle.machine.specs.Names.{row_words}
 use Rattle.machine.specs.Lists.{Lent, lists}
@@ -44,7 +45,7 @@ most_words = row_words * most_entries
 abbrev pub ready : State → Bool
 ready s =
     nat_le most_entries s.gathered
-    || (nat_lt 0 s.gathered && (s.read.run_left == 0 && (not (s.read.refused == 0) || s.closed)))
+    || (nat_lt 0 s.gathered && (s.read.run_left == 0 && (not (is_none s.read.refused) || s.closed)))
 
 -- where there is room for what a move may store; len is the chunk's length, and `final` says that no chunk comes after it. The lock is set up for the
 -- first entry
@@ -53,7 +54,7 @@ roomy_move s len from final =
     cond (not s.stood && nat_lt 0 s.read.run_left) Stand
     (cond (ready s) Piece
     (cond (nat_lt 0 s.read.run_left) Gather
-    (cond (not (s.read.refused == 0)) Rest
+    (cond (not (is_none s.read.refused)) Rest
     (cond s.closed Rest
     (cond (nat_lt from len) ALine
     (cond final Close Rest))))))
@@ -193,11 +194,11 @@ feed chunk final (suc turns) w = cond (rests (next_of chunk final w)) w (feed ch
 -- ---- why a call rests
 -- all rows of the input are out: nothing waits, and it was refused or its end was taken
 unfoldable pub over : State → Bool
-over s = s.gathered == 0 && (s.read.run_left == 0 && (not (s.read.refused == 0) || s.closed))
+over s = s.gathered == 0 && (s.read.run_left == 0 && (not (is_none s.read.refused) || s.closed))
 
 -- then it was refused, with its number and its line, or it has ended
 abbrev pub end_of : State → Stop
-end_of s = cond (s.read.refused == 0) Over (Refused s.read.refused s.read.line)
+end_of s = cond (is_none s.read.refused) Over (Refused (unwrap_or s.read.refused 0) s.read.line)
 
 -- where not all is out, another chunk is wanted, or there is no room for a piece in the list of `room` words
 unfoldable pub stop_of : State → ℕ → ℕ → Stop

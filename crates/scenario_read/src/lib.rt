@@ -4,17 +4,18 @@
 mod peek;
 mod run_lines;
 
-ghost use Rattle.std.specs.Prelude.{◌≡◌, ◌-◌, ◌^◌, take, replicate, if◌then◌else◌, nat_lt};
+ghost use Rattle.std.specs.Prelude.{◌≡◌, ◌-◌, ◌^◌, take, replicate, if◌then◌else◌, nat_lt, ◌==◌, ◌&&◌, ◌||◌, not};
 ghost use Rattle.std.proofs.lemmas.List.Edits.{sets};
+ghost use Rattle.std.specs.Option.{is_none};
 ghost use Rattle.scenario_lines.specs.Judge.{judge};
 ghost use Rattle.scenario_lines.specs.Held.{view};
 ghost use Rattle.scenario_stages.specs.Kept.{on_line, lens_after, ops_after, vals_after};
 ghost use Rattle.scenario_pieces.specs.Piece.{first_of};
 ghost use Rattle.scenario_read.specs.declared.Move.TheVariants.{Line as ALine, Close, Rest};
-ghost use Rattle.scenario_read.specs.Feed.{fresh as freshState, over, end_of, stop_of, is_end, is_full, ready, roomy_move, what, rests, state_with, more, runs, takes, ends, feed};
+ghost use Rattle.scenario_read.specs.Feed.{fresh as freshState, over, end_of, stop_of, is_end, is_full, ready, roomy_move, what, rests, more, runs, takes, ends, feed};
 ghost use Rattle.scenario_read.specs.Code.{world_of, lock_world, other_world, line_world, fed_of, of_lock, to_stand, lock_moved, other_moved, now_stood, closed_with, gathered_in};
 
-use lock_words::names::NONE;
+use machine::Lists;
 use scenario_lines::bytes;
 use scenario_lines::bytes::Held;
 use scenario_pieces::{ENTRIES, Standing};
@@ -38,7 +39,7 @@ pub struct State {
     pub closed: bool,
 }
 
-// What comes next.
+// What comes next. It stays an enum: `next_of` and `moved` of specs/Feed, and what is promised of them, speak of it.
 #[derive(Clone, Copy)]
 pub enum Move {
     Stand,
@@ -92,6 +93,7 @@ pub fn fresh() -> State
 }
 
 // Why a call that left this state rests, where it left the place `at` in a list of `room` words.
+#[tactic(auto, unfolding(crate::specs::Feed::stop_of))]
 pub fn stopped(s: State, room: usize, at: usize) -> Stop
     ensures { result ≡ stop_of s room at }
 {
@@ -108,24 +110,14 @@ pub fn stopped(s: State, room: usize, at: usize) -> Stop
 pub fn ends(stop: Stop) -> bool
     ensures { result ≡ is_end stop }
 {
-    match stop {
-        Stop::Wants => false,
-        Stop::Full => false,
-        Stop::Refused(_, _) => true,
-        Stop::Over => true,
-    }
+    matches!(stop, Stop::Refused(_, _) | Stop::Over)
 }
 
 // The list was full: rows may still come of what was read.
 pub fn is_full(stop: Stop) -> bool
     ensures { result ≡ is_full stop }
 {
-    match stop {
-        Stop::Wants => false,
-        Stop::Full => true,
-        Stop::Refused(_, _) => false,
-        Stop::Over => false,
-    }
+    matches!(stop, Stop::Full)
 }
 
 // Moves are made until nothing comes next: the chunk's bytes from `from` on are taken, and the rows that come of them are stored from the word `at` on. `last` says
@@ -157,10 +149,10 @@ pub fn feed(
     let mut i = from;
     let mut k = at;
     let mut turns = u64::MAX;
+    // No `for`: run lines that are read ahead take several turns at once.
     while 0 < turns {
         let ran = run_lines::runs_first(s, line, schedule, chunk, i, rows.len(), k, turns);
-        let u = ran.state;
-        s = u;
+        s = ran.state;
         i = ran.from;
         turns = ran.turns - 1;
         let m = what(s, chunk.len(), i, last, rows.len(), k);
@@ -169,16 +161,13 @@ pub fn feed(
         }
         if of_lock(m) {
             let r = lock_move(m, s, p, lens, ops, vals, schedule, i, rows, k);
-            let t = r.state;
-            let q = r.standing;
-            s = t;
-            p = q;
+            s = r.state;
+            p = r.standing;
             k = r.at;
             continue;
         }
         let r = other_move(m, s, line, lens, ops, vals, schedule, chunk, i);
-        let t = r.state;
-        s = t;
+        s = r.state;
         i = r.from;
     }
     after(s, p, i, k)
@@ -197,36 +186,34 @@ fn after(state: State, standing: Standing, from: usize, at: usize) -> Fed
 
 // ---- why it rests
 
+// No entry comes after those that wait.
+fn is_read(s: State) -> bool
+    ensures { result ≡ (s.read.run_left == 0 && (not (is_none s.read.refused) || s.closed)) }
+{
+    s.read.run_left == 0 && (s.read.refused.is_some() || s.closed)
+}
+
 // All rows of the input are out.
+#[tactic(auto, unfolding(crate::specs::Feed::over))]
 fn is_over(s: State) -> bool
     ensures { result ≡ over s }
 {
-    let r = s.read;
-    if s.gathered != 0 {
-        return false;
-    }
-    if r.run_left != 0 {
-        return false;
-    }
-    if r.refused != NONE {
-        return true;
-    }
-    s.closed
+    s.gathered == 0 && is_read(s)
 }
 
 fn end_of(s: State) -> Stop
     ensures { result ≡ end_of s }
 {
-    let r = s.read;
-    if r.refused != NONE {
-        return Stop::Refused(r.refused, r.line);
+    match s.read.refused {
+        Some(number) => Stop::Refused(number, s.read.line),
+        None => Stop::Over,
     }
-    Stop::Over
 }
 
 // ---- what comes next
 
 // A move is made only where the rows of a whole piece have room.
+#[tactic(auto, unfolding(crate::specs::Feed::what))]
 fn what(s: State, len: usize, from: usize, last: bool, room: usize, at: usize) -> Move
     ensures { result ≡ what s len from last room at }
 {
@@ -236,6 +223,7 @@ fn what(s: State, len: usize, from: usize, last: bool, room: usize, at: usize) -
     Move::Rest
 }
 
+#[tactic(auto, unfolding(crate::specs::Feed::roomy_move))]
 fn roomy_move(s: State, len: usize, from: usize, last: bool) -> Move
     ensures { result ≡ roomy_move s len from last }
 {
@@ -245,14 +233,10 @@ fn roomy_move(s: State, len: usize, from: usize, last: bool) -> Move
     if is_ready(s) {
         return Move::Piece;
     }
-    let r = s.read;
-    if 0 < r.run_left {
+    if 0 < s.read.run_left {
         return Move::Gather;
     }
-    if r.refused != NONE {
-        return Move::Rest;
-    }
-    if s.closed {
+    if s.read.refused.is_some() || s.closed {
         return Move::Rest;
     }
     input_move(len, from, last)
@@ -262,31 +246,14 @@ fn roomy_move(s: State, len: usize, from: usize, last: bool) -> Move
 fn to_stand(s: State) -> bool
     ensures { result ≡ to_stand s }
 {
-    if s.stood {
-        return false;
-    }
-    let r = s.read;
-    0 < r.run_left
+    !s.stood && 0 < s.read.run_left
 }
 
 // All that was gathered is run.
 fn is_ready(s: State) -> bool
     ensures { result ≡ ready s }
 {
-    let r = s.read;
-    if ENTRIES <= s.gathered {
-        return true;
-    }
-    if s.gathered == 0 {
-        return false;
-    }
-    if r.run_left != 0 {
-        return false;
-    }
-    if r.refused != NONE {
-        return true;
-    }
-    s.closed
+    ENTRIES <= s.gathered || (0 < s.gathered && is_read(s))
 }
 
 // Bytes are left, or no chunk comes after this one, or there is nothing to do.
@@ -305,27 +272,13 @@ fn input_move(len: usize, from: usize, last: bool) -> Move
 fn rests(m: Move) -> bool
     ensures { result ≡ rests m }
 {
-    match m {
-        Move::Stand => false,
-        Move::Piece => false,
-        Move::Gather => false,
-        Move::Line => false,
-        Move::Close => false,
-        Move::Rest => true,
-    }
+    matches!(m, Move::Rest)
 }
 
 fn of_lock(m: Move) -> bool
     ensures { result ≡ of_lock m }
 {
-    match m {
-        Move::Stand => true,
-        Move::Piece => true,
-        Move::Gather => false,
-        Move::Line => false,
-        Move::Close => false,
-        Move::Rest => false,
-    }
+    matches!(m, Move::Stand | Move::Piece)
 }
 
 // ---- the moves of the lock
@@ -346,36 +299,18 @@ fn lock_move(
     ensures result_value { let w = lock_world s p lens.now ops.now vals.now schedule.now from rows.old at in result ≡ fed_of (lock_moved w m) }
     ensures rows_after { let w = lock_world s p lens.now ops.now vals.now schedule.now from rows.old at in rows.new ≡ (lock_moved w m).out }
 {
-    let kept = Fed {
-        state: s,
-        standing: p,
-        from,
-        at,
-    };
     match m {
         Move::Stand => stand(s, from, at),
         Move::Piece => run_waiting(s, p, lens, ops, vals, schedule, from, rows, at),
-        Move::Gather => kept,
-        Move::Line => kept,
-        Move::Close => kept,
-        Move::Rest => kept,
+        _ => after(s, p, from, at),
     }
 }
 
 fn stand(s: State, from: usize, at: usize) -> Fed
     ensures { result ≡ record { state = now_stood s; standing = first_of s.read.pred s.read.top s.read.first; from = from; at = at } }
 {
-    let r = s.read;
-    let pred = r.pred;
-    let standing = scenario_pieces::at_first(pred, r.top, r.first);
-    let mut t = s;
-    t.stood = true;
-    Fed {
-        state: t,
-        standing,
-        from,
-        at,
-    }
+    let standing = scenario_pieces::at_first(s.read.pred, s.read.top, s.read.first);
+    after(State { stood: true, ..s }, standing, from, at)
 }
 
 fn run_waiting(
@@ -392,32 +327,20 @@ fn run_waiting(
     ensures result_value { let w = lock_world s p lens.now ops.now vals.now schedule.now from rows.old at in result ≡ fed_of (runs w) }
     ensures rows_after { let w = lock_world s p lens.now ops.now vals.now schedule.now from rows.old at in rows.new ≡ (runs w).out }
 {
-    let r = s.read;
-    let done = scenario_pieces::run_piece(
-        upto(lens, r.threads),
-        upto(ops, r.count),
-        upto(vals, r.count),
-        p,
-        upto(schedule, s.gathered),
-        rows,
-        at,
-    );
-    let mut t = s;
-    t.gathered = 0;
-    let standing = done.standing;
-    Fed {
-        state: t,
-        standing,
-        from,
-        at: done.at,
-    }
+    let lists = Lists {
+        lens: upto(lens, s.read.threads),
+        ops: upto(ops, s.read.count),
+        vals: upto(vals, s.read.count),
+    };
+    let done = scenario_pieces::run_piece(lists, p, upto(schedule, s.gathered), rows, at);
+    after(State { gathered: 0, ..s }, done.standing, from, done.at)
 }
 
 // The first n places, as far as there are places.
 pub fn upto(list: &[u64], n: u64) -> &[u64]
     ensures { result.now ≡ take n list.now }
 {
-    let m = lock_words::smaller(n, list.len() as u64) as usize;
+    let m = n.min(list.len() as u64) as usize;
     &list[..m]
 }
 
@@ -437,17 +360,14 @@ fn other_move(
 ) -> Moved
     ensures { let w = other_world s line.old lens.old ops.old vals.old schedule.old from in other_world result.state line.new lens.new ops.new vals.new schedule.new result.from ≡ other_moved chunk.now w m }
 {
-    let kept = Moved { state: s, from };
     match m {
-        Move::Stand => kept,
-        Move::Piece => kept,
         Move::Gather => Moved {
             state: gather(s, schedule),
             from,
         },
         Move::Line => take_in(s, line, lens, ops, vals, chunk, from),
         Move::Close => close(s, line, lens, ops, vals, from),
-        Move::Rest => kept,
+        _ => Moved { state: s, from },
     }
 }
 
@@ -457,38 +377,31 @@ fn gather(s: State, schedule: &mut [u64]) -> State
     ensures schedule_after { schedule.new ≡ sets schedule.old s.gathered (replicate (more s) s.read.run_thread) }
 {
     let n = more(s);
-    let mut r = s.read;
-    fill(schedule, s.gathered, n, r.run_thread);
-    r.run_left = r.run_left - n;
-    let mut t = s;
-    t.read = r;
-    t.gathered = s.gathered + n;
-    t
+    fill(schedule, s.gathered, n, s.read.run_thread);
+    State {
+        read: Read {
+            run_left: s.read.run_left - n,
+            ..s.read
+        },
+        gathered: s.gathered + n,
+        ..s
+    }
 }
 
 fn more(s: State) -> u64
     ensures { result ≡ more s }
 {
-    let r = s.read;
-    if ENTRIES <= s.gathered {
-        return 0;
-    }
-    lock_words::smaller(r.run_left, ENTRIES - s.gathered)
+    s.read.run_left.min(ENTRIES.saturating_sub(s.gathered))
 }
 
 // v stands n times from a place on, as far as there are places.
 fn fill(list: &mut [u64], from: u64, n: u64, v: u64)
     ensures { list.new ≡ sets list.old from (replicate n v) }
 {
-    let mut k = from;
-    let mut left = n;
-    while 0 < left {
-        if list.len() as u64 <= k {
-            return;
-        }
-        list[k as usize] = v;
-        k += 1;
-        left -= 1;
+    let len = list.len() as u64;
+    if from < len {
+        let end = from + n.min(len - from);
+        list[from as usize..end as usize].fill(v);
     }
 }
 
@@ -504,19 +417,21 @@ fn take_in(
 ) -> Moved
     ensures { line_world result.state line.new lens.new ops.new vals.new result.from ≡ takes chunk.now (line_world s line.old lens.old ops.old vals.old from) }
 {
-    let held = s.held;
-    let taken = bytes::take_line(line, held, chunk, from);
+    let taken = bytes::take_line(line, s.held, chunk, from);
     let h = taken.held;
-    let r = s.read;
-    if h.done {
-        let q = read_line(r, line, h.len, lens, ops, vals);
+    if !h.done {
         return Moved {
-            state: with_read(s, bytes::begin(), q),
+            state: State { held: h, ..s },
             from: taken.at,
         };
     }
+    let read = read_line(s.read, line, h.len, lens, ops, vals);
     Moved {
-        state: with_read(s, h, r),
+        state: State {
+            held: bytes::begin(),
+            read,
+            ..s
+        },
         from: taken.at,
     }
 }
@@ -532,18 +447,14 @@ fn close(
 ) -> Moved
     ensures { line_world result.state line.new lens.new ops.new vals.new result.from ≡ ends (line_world s line.old lens.old ops.old vals.old from) }
 {
-    let held = s.held;
-    let h = bytes::finish(line, held);
-    let r = s.read;
-    if h.done {
-        let q = read_line(r, line, h.len, lens, ops, vals);
-        return Moved {
-            state: closed_with(s, q),
-            from,
-        };
-    }
+    let h = bytes::finish(line, s.held);
+    let read = if h.done {
+        read_line(s.read, line, h.len, lens, ops, vals)
+    } else {
+        s.read
+    };
     Moved {
-        state: closed_with(s, r),
+        state: closed_with(s, read),
         from,
     }
 }
@@ -566,20 +477,14 @@ fn read_line(
     scenario_stages::on_line(r, l, lens, ops, vals)
 }
 
-fn with_read(s: State, h: Held, r: Read) -> State
-    ensures { result ≡ state_with s h r s.gathered }
-{
-    let mut t = s;
-    t.held = h;
-    t.read = r;
-    t
-}
-
 // The last line was read into r.
 fn closed_with(s: State, r: Read) -> State
     ensures { result ≡ closed_with s r }
 {
-    let mut t = with_read(s, bytes::begin(), scenario_stages::at_end(r));
-    t.closed = true;
-    t
+    State {
+        held: bytes::begin(),
+        read: scenario_stages::at_end(r),
+        closed: true,
+        ..s
+    }
 }

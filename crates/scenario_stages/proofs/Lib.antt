@@ -1,7 +1,6 @@
+pub mod Noted
 pub mod Clears
 pub mod Asks
-pub mod Chosen
-pub mod Lefts
 pub mod Few
 pub mod Alike
 pub mod Grows

@@ -1,16 +1,18 @@
 -- What the code keeps means what a reading has: at the start, after each line, at the end, and for whoever runs the entries. Assumes nothing.
-use Rattle.std.proofs.Common.{◌≡◌, ℕ, ◌+◌, Bool, true, false, cond, ◌&&◌, eqb, ltb, List, ◌++◌, replicate, sym, refl, ap, ◌∙◌, append-nil, arith, eqb-true}
+use Rattle.std.specs.Option.{is_none}
+use Rattle.scenario_stages.proofs.Noted.{none_noted, noted_some, told}
+use Rattle.std.proofs.Common.{◌≡◌, ℕ, ◌+◌, ◌%◌, Bool, true, false, cond, ◌&&◌, eqb, ltb, List, ◌++◌, replicate, sym, refl, ap, ◌∙◌, append-nil, arith, eqb-true, Some}
 use Rattle.scenario_lines.specs.Judge.{judge}
 use Rattle.scenario_lines.specs.declared.Line.{Line}
 use Rattle.scenario_lines.specs.declared.Line.TheVariants.{Broken, Header, BadNumber, Lock, Pred as PredLine, Op, Run, NoKind}
-use Rattle.scenario.specs.Names.{wrong_line}
+use Rattle.scenario.specs.Names.{wrong_line, counted_to}
 use Rattle.scenario.specs.Scenario.{Scenario, taken}
 use Rattle.scenario.specs.Refused.{stage_no, refusal_of}
 use Rattle.scenario.specs.Printed.{Reading, reading, next, ended}
 use Rattle.scenario.proofs.Setup.{keeps_accepted}
 use Rattle.scenario_stages.specs.declared.Read.{Read}
 use Rattle.scenario_stages.specs.Kept.{refusal_at, run_thread, run_left, taken_by, refused_by, after_line, on_line, lens_with, ops_with, vals_with, lens_after, ops_after, vals_after, at_end}
-use Rattle.scenario_stages.specs.Means.{Means, BeginMeans, LineMeans, EndMeans, EntriesApart, LentMeans, LockMeans, RefusalMeans}
+use Rattle.scenario_stages.specs.Means.{Means, BeginMeans, LineMeans, EndMeans, EntriesApart, LentMeans, LockMeans, RefusalMeans, noted}
 use Rattle.scenario_stages.proofs.Few.{few}
 use Rattle.scenario_stages.proofs.Alike.{refuses_alike}
 use Rattle.scenario_stages.proofs.Grows.{outlined_then, lent_then, counted_then, room_then}
@@ -39,11 +41,11 @@ schedule_then s (Run t times) = refl
 schedule_then s NoKind = sym (append-nil s.schedule)
 
 module _ (r : Read) (lens ops vals : List ℕ) (q : Reading) (m : Means r lens ops vals q) where
-  refused_means : (k : ℕ) → Means (refused_by r k) lens ops vals (reading (q.line + 1) k q.scenario)
-  refused_means k =
+  refused_means : (k : ℕ) → Some k ≡ noted k → Means (refused_by r k) lens ops vals (reading (q.line + 1) k q.scenario)
+  refused_means k some =
       record {
         line = omega (arith, m.line);
-        refused = refl;
+        refused = some;
         outlined = m.outlined;
         counted = m.counted;
         lent = m.lent;
@@ -56,7 +58,7 @@ module _ (r : Read) (lens ops vals : List ℕ) (q : Reading) (m : Means r lens o
   taken_means l k z none =
       record {
         line = omega (arith, m.line);
-        refused = sym z;
+        refused = rw z refl;
         outlined = outlined_then r lens ops vals q m l;
         counted = counted_then r lens ops vals q m l none;
         lent = lent_then r lens ops vals q m l none;
@@ -72,7 +74,7 @@ module _ (r : Read) (lens ops vals : List ℕ) (q : Reading) (m : Means r lens o
       × (q'.scenario.schedule ≡ q.scenario.schedule ++ replicate s.run_left s.run_thread)
   line_by false e l k z w left = (m, rw left (sym (append-nil q.scenario.schedule)))
   line_by true true l k z w left = (taken_means l k (eqb-true k 0 z) (sym w ∙ eqb-true k 0 z), schedule_then q.scenario l)
-  line_by true false l k z w left = (refused_means k, sym (append-nil q.scenario.schedule))
+  line_by true false l k z w left = (refused_means k (noted_some k z), sym (append-nil q.scenario.schedule))
 
   -- the same, where the code's tests and the definition's agree
   line_of : (b : Bool) (l : Line) (k : ℕ) → b ≡ eqb q.refused 0 → k ≡ refusal_of q.scenario l → r.run_left ≡ 0
@@ -91,13 +93,13 @@ module _ (r : Read) (lens ops vals : List ℕ) (q : Reading) (m : Means r lens o
       Means (cond b (cond c (refused_by r wrong_line) r) r) lens ops vals q' × (q'.scenario ≡ q.scenario)
   end_by b false c c' e f = rw e (m, refl)
   end_by b true c false e f = rw (e, f) (m, refl)
-  end_by b true c true e f = rw (e, f) (refused_means wrong_line, refl)
+  end_by b true c true e f = rw (e, f) (refused_means wrong_line refl, refl)
 
 pub line_means : LineMeans
 unfolding on_line lens_after ops_after vals_after next
 line_means r lens ops vals q l m left =
-    line_of r lens ops vals q m (eqb r.refused 0) (judge l) (refusal_at r lens (judge l))
-    (ap (λ (k : ℕ). eqb k 0) m.refused)
+    line_of r lens ops vals q m (is_none r.refused) (judge l) (refusal_at r lens (judge l))
+    (ap is_none m.refused ∙ none_noted q.refused)
     (refuses_alike r lens ops vals q m (judge l))
     left
 
@@ -105,7 +107,7 @@ pub end_means : EndMeans
 unfolding at_end ended
 end_means r lens ops vals q m =
     end_by r lens ops vals q m _ _ _ _
-    (ap (λ (k : ℕ). eqb k 0) m.refused)
+    (ap is_none m.refused ∙ none_noted q.refused)
     (ap (λ (s : Scenario). ltb (stage_no s.stage) 3) m.outlined)
 
 -- ---- what whoever runs the entries needs
@@ -140,4 +142,4 @@ lock_means r lens ops vals q m =
     )
 
 pub refusal_means : RefusalMeans
-refusal_means r lens ops vals q m = rw (m.refused, m.line)
+refusal_means r lens ops vals q m = rw (m.refused, m.line) (told q.refused (q.line % counted_to))

@@ -1,4 +1,5 @@
 -- Entries come from run lines alone, and at run lines nothing changes of which the lock and the scripts are made. Assumes nothing.
+use Rattle.std.specs.Option.{is_none}
 use Rattle.std.proofs.Common.{◌≡◌, ℕ, ◌<◌, Bool, true, false, cond, ◌&&◌, eqb, ltb, leb, List, get_or, refl, ap, arith, eqb-true}
 use Rattle.scenario_lines.specs.declared.Line.{Line}
 use Rattle.scenario_lines.specs.declared.Line.TheVariants.{Broken, Header, BadNumber, Lock, Pred as PredLine, Op, Run, NoKind}
@@ -31,7 +32,7 @@ entries_by true true r l k left h = entries_taken r l h
 
 pub entries_at_runs : EntriesAtRuns
 unfolding on_line
-entries_at_runs r l lens = entries_by (eqb r.refused 0) (eqb (refusal_at r lens l) 0) r l (refusal_at r lens l)
+entries_at_runs r l lens = entries_by (is_none r.refused) (eqb (refusal_at r lens l) 0) r l (refusal_at r lens l)
 
 -- ---- what stays
 -- a stage with another number is another stage
@@ -68,4 +69,4 @@ pub runs_keep : RunsKeep
 unfolding on_line lens_after ops_after vals_after
 runs_keep r l lens ops vals h =
     let k = refusal_at r lens l in
-    kept_by (eqb r.refused 0) (eqb k 0) r l k lens ops vals (λ e. eqb-true k 0 e) h
+    kept_by (is_none r.refused) (eqb k 0) r l k lens ops vals (λ e. eqb-true k 0 e) h

@@ -1,5 +1,6 @@
 -- What the code keeps of a scenario file that is read, and what one more line, or the file's end, makes of it.
-use Rattle.std.specs.Prelude.{ℕ, zero, suc, ◌+◌, ◌%◌, cond, ◌&&◌, List, [], ◌∷◌, ◌==◌, nat_le, nat_lt, slice_index, slice_set}
+use Rattle.std.specs.Option.{is_none}
+use Rattle.std.specs.Prelude.{ℕ, zero, suc, ◌+◌, ◌%◌, cond, ◌&&◌, List, [], ◌∷◌, ◌==◌, nat_le, nat_lt, slice_index, slice_set, Option, Some, None}
 use Rattle.cell.specs.Pred.{of_kind}
 use Rattle.machine.specs.Names.{script_too_long, wrong_code, longest_script}
 use Rattle.machine.specs.Lists.{lists, wrong}
@@ -26,7 +27,7 @@ outline r =
     }
 
 -- line, refusal and scenario, the number of operations, and the entries that the last line added: the thread, and how often
-abbrev pub keeping : ℕ → ℕ → Scenario → ℕ → ℕ → ℕ → Read
+abbrev pub keeping : ℕ → Option ℕ → Scenario → ℕ → ℕ → ℕ → Read
 keeping line refused s count t times =
     record {
       line = line;
@@ -44,7 +45,7 @@ keeping line refused s count t times =
 
 -- before the first line
 abbrev pub nothing_read : Read
-nothing_read = keeping 0 0 nothing 0 0 0
+nothing_read = keeping 0 None nothing 0 0 0
 
 -- lines and operations are counted modulo 2 ^ 64
 abbrev pub counted_on : ℕ → ℕ
@@ -106,11 +107,11 @@ run_left (Run t times) = times
 run_left NoKind = 0
 
 abbrev pub taken_by : Read → Line → Read
-taken_by r l = keeping (counted_on r.line) 0 (taken (outline r) l) (count_with r l) (run_thread l) (run_left l)
+taken_by r l = keeping (counted_on r.line) None (taken (outline r) l) (count_with r l) (run_thread l) (run_left l)
 
 -- what was read before it stays
 abbrev pub refused_by : Read → ℕ → Read
-refused_by r k = keeping (counted_on r.line) k (outline r) r.count 0 0
+refused_by r k = keeping (counted_on r.line) (Some k) (outline r) r.count 0 0
 
 -- after a line with the refusal k, 0 for none
 abbrev pub after_line : ℕ → Read → Line → Read
@@ -118,7 +119,7 @@ after_line k r l = cond (k == 0) (taken_by r l) (refused_by r k)
 
 -- a refusal ends the file
 unfoldable pub on_line : Read → Line → List ℕ → Read
-on_line r l lens = cond (r.refused == 0) (after_line (refusal_at r lens l) r l) r
+on_line r l lens = cond (is_none r.refused) (after_line (refusal_at r lens l) r l) r
 
 -- ---- the lists after a line
 -- the first n places are 0, as far as there are places
@@ -164,7 +165,7 @@ unless_refused r l lens changed before = cond (refusal_at r lens l == 0) changed
 
 -- and no line before it was
 abbrev pub if_taken : Read → Line → List ℕ → List ℕ → List ℕ → List ℕ
-if_taken r l lens changed before = cond (r.refused == 0 && refusal_at r lens l == 0) changed before
+if_taken r l lens changed before = cond (is_none r.refused && refusal_at r lens l == 0) changed before
 
 unfoldable pub lens_after : Read → Line → List ℕ → List ℕ
 lens_after r l lens = if_taken r l lens (lens_with r l lens) lens
@@ -178,4 +179,4 @@ vals_after r l lens vals = if_taken r l lens (vals_with r l vals) vals
 -- ---- the end of the file
 -- a missing header, lock or pred line is refused at the line after the last
 unfoldable pub at_end : Read → Read
-at_end r = cond (r.refused == 0) (cond (nat_lt (stage_no r.stage) 3) (refused_by r wrong_line) r) r
+at_end r = cond (is_none r.refused) (cond (nat_lt (stage_no r.stage) 3) (refused_by r wrong_line) r) r

@@ -1,6 +1,7 @@
 -- What the code keeps means what a reading of the file has: at the start, after each line, and at the end. The schedule stands apart: of it the
 -- code keeps only what the last line added.
-use Rattle.std.specs.Prelude.{◌≡◌, ℕ, ◌%◌, ◌<◌, ◌≤◌, cond, List, [], ◌++◌, length, take, replicate, ◌==◌}
+use Rattle.std.specs.Option.{is_none}
+use Rattle.std.specs.Prelude.{◌≡◌, ℕ, ◌%◌, ◌<◌, ◌≤◌, cond, List, [], ◌++◌, length, take, replicate, ◌==◌, Option, Some, None, unwrap_or, zero, suc}
 use Rattle.machine.specs.Names.{most_threads}
 use Rattle.machine.specs.Lists.{lists}
 use Rattle.scenario_text.specs.Lines.{refusal}
@@ -35,9 +36,14 @@ bare s =
       schedule = [];
     }
 
+-- a refusal's number, as it is kept: 0 is none
+abbrev pub noted : ℕ → Option ℕ
+noted zero = None
+noted (suc k) = Some (suc k)
+
 pub record Means (r : Read) (lens ops vals : List ℕ) (q : Reading) : Type 0 where
   pub line : r.line ≡ q.line % counted_to
-  pub refused : r.refused ≡ q.refused
+  pub refused : r.refused ≡ noted q.refused
   pub outlined : outline r ≡ bare q.scenario
   pub counted : r.count ≡ length q.scenario.lent.ops
   -- from the pred line on
@@ -95,4 +101,4 @@ LockMeans =
 abbrev pub RefusalMeans : Type 0
 RefusalMeans =
     (r : Read) (lens ops vals : List ℕ) (q : Reading) → Means r lens ops vals q
-    → refusal_text q ≡ cond (r.refused == 0) [] (refusal r.refused r.line)
+    → refusal_text q ≡ cond (is_none r.refused) [] (refusal (unwrap_or r.refused 0) r.line)

@@ -1,14 +1,14 @@
 // A scenario file's lines, taken one by one into what is read so far: its refusal, or what it adds.
 #![tactic(auto)]
 
-ghost use Rattle.std.specs.Prelude.{◌≡◌, ◌≤◌, [], length, take, replicate, if◌then◌else◌, nat_lt, slice_set};
+ghost use Rattle.std.specs.Prelude.{◌≡◌, ◌≤◌, [], length, take, replicate, if◌then◌else◌, nat_lt, slice_set, None};
 ghost use Rattle.scenario_lines.specs.declared.Line.TheVariants.{Header, BadNumber, Lock, Pred as PredLine, Op, Run};
 ghost use Rattle.machine.specs.Lists.{lists};
 ghost use Rattle.machine.specs.Setup.{setup_refusal};
 ghost use Rattle.scenario.specs.Names.{wrong_line};
 ghost use Rattle.scenario.specs.Scenario.{pred_of};
 ghost use Rattle.scenario.specs.Refused.{stage_no, at, misplaced};
-ghost use Rattle.scenario_stages.specs.Kept.{nothing_read, outline, counted_on, op_number, refusal_at, refused_by, after_line, on_line, at_end};
+ghost use Rattle.scenario_stages.specs.Kept.{nothing_read, outline, keeping, counted_on, op_number, refusal_at, refused_by, after_line, on_line, at_end};
 ghost use Rattle.scenario_stages.specs.Kept.{cleared, lens_with, ops_with, vals_with, unless_refused, lens_after, ops_after, vals_after};
 
 use atomic::Count;
@@ -18,7 +18,7 @@ use lock::setup;
 use lock_words::names::{
     LONGEST_SCRIPT, MOST_THREADS, NONE, SCRIPT_TOO_LONG, THREAD_COUNT, WRONG_CODE,
 };
-use machine::{Lock, Place, Refusal};
+use machine::{Lists, Place};
 use scenario::Stage;
 use scenario_lines::Line;
 
@@ -32,8 +32,8 @@ const WRONG_LINE: u64 = 32;
 pub struct Read {
     // How many lines were read, modulo 2^64.
     pub line: u64,
-    // The number of the refusal, 0 for none; it is at the line counted.
-    pub refused: u64,
+    // The number of the refusal; it is at the line counted.
+    pub refused: Option<u64>,
     // Which lines may come next.
     pub stage: Stage,
     // The lock line: M, the first value, the number of threads.
@@ -57,7 +57,7 @@ pub fn begin() -> Read
 {
     Read {
         line: 0,
-        refused: NONE,
+        refused: None,
         stage: Stage::Header,
         top: 0,
         first: 0,
@@ -72,13 +72,14 @@ pub fn begin() -> Read
 
 // One more line. The lists hold the threads' lengths, and the operations and values of all scripts; lines other than pred and op lines
 // never touch them.
+#[tactic(auto, unfolding(crate::specs::Kept::on_line, crate::specs::Kept::lens_after, crate::specs::Kept::ops_after, crate::specs::Kept::vals_after))]
 pub fn on_line(r: Read, l: Line, lens: &mut [u64], ops: &mut [u64], vals: &mut [u64]) -> Read
     ensures value { result ≡ on_line r l lens.old }
     ensures lens_after { lens.new ≡ lens_after r l lens.old }
     ensures ops_after { ops.new ≡ ops_after r l lens.old ops.old }
     ensures vals_after { vals.new ≡ vals_after r l lens.old vals.old }
 {
-    if r.refused != NONE {
+    if r.refused.is_some() {
         return r;
     }
     match l {
@@ -94,77 +95,83 @@ pub fn on_line(r: Read, l: Line, lens: &mut [u64], ops: &mut [u64], vals: &mut [
 }
 
 // The end of the file: a missing header, lock or pred line.
+#[tactic(auto, unfolding(crate::specs::Kept::at_end))]
 pub fn at_end(r: Read) -> Read
     ensures { result ≡ at_end r }
 {
-    if r.refused != NONE {
-        return r;
+    if r.refused.is_none() && misses(r.stage) {
+        refuse(r, WRONG_LINE)
+    } else {
+        r
     }
-    let stage = r.stage;
-    if misses(stage) {
-        return refuse(r, WRONG_LINE);
-    }
-    r
 }
 
 // ---- a line of each kind
 
+#[tactic(auto, unfolding(scenario::specs::Scenario::taken))]
 fn on_header(r: Read) -> Read
     ensures { result ≡ after_line (refusal_at r [] Header) r Header }
 {
-    let stage = r.stage;
-    if is_at(stage, Stage::Header) {
-        let pred = r.pred;
-        return step(r, Stage::Lock, pred);
+    if r.stage != Stage::Header {
+        return refuse(r, BROKEN_LINE);
     }
-    refuse(r, BROKEN_LINE)
+    Read {
+        stage: Stage::Lock,
+        ..counted(r)
+    }
 }
 
 // On line 1 no number is read.
 fn on_bad_number(r: Read) -> Read
     ensures { result ≡ after_line (refusal_at r [] BadNumber) r BadNumber }
 {
-    let stage = r.stage;
-    if is_at(stage, Stage::Header) {
-        return refuse(r, WRONG_LINE);
+    if r.stage == Stage::Header {
+        refuse(r, WRONG_LINE)
+    } else {
+        refuse(r, BROKEN_LINE)
     }
-    refuse(r, BROKEN_LINE)
 }
 
+#[tactic(auto, unfolding(scenario::specs::Scenario::taken))]
 fn on_lock(r: Read, top: u64, first: u64, threads: u64) -> Read
     ensures { result ≡ after_line (refusal_at r [] (Lock top first threads)) r (Lock top first threads) }
 {
-    let stage = r.stage;
-    if is_at(stage, Stage::Lock) {
-        let pred = r.pred;
-        let mut s = step(r, Stage::Pred, pred);
-        s.top = top;
-        s.first = first;
-        s.threads = threads;
-        return s;
+    if r.stage != Stage::Lock {
+        return refuse(r, WRONG_LINE);
     }
-    refuse(r, WRONG_LINE)
+    Read {
+        stage: Stage::Pred,
+        top,
+        first,
+        threads,
+        ..counted(r)
+    }
 }
 
+#[tactic(auto, unfolding(scenario::specs::Scenario::taken))]
 fn on_pred(r: Read, kind: u64, a: u64, b: u64, lens: &mut [u64]) -> Read
     ensures value { result ≡ after_line (refusal_at r [] (PredLine kind a b)) r (PredLine kind a b) }
     ensures lens_after { let l = PredLine kind a b in let before = lens.old in lens.new ≡ unless_refused r l before (lens_with r l before) before }
 {
-    let stage = r.stage;
-    if is_at(stage, Stage::Pred) {
-        let pred = pred_of(pred::of_kind(kind, a, b));
-        let k = setup_number(pred, r.top, r.first, r.threads);
-        if k == NONE {
-            clear(lens, r.threads);
-            let mut s = step(r, Stage::Ops, pred);
-            s.count = 0;
-            return s;
-        }
+    if r.stage != Stage::Pred {
+        return refuse(r, WRONG_LINE);
+    }
+    // A kind above 2 is refused as a bad parameter is.
+    let pred = pred::of_kind(kind, a, b).unwrap_or(Pred::Parity(2));
+    let k = setup_number(pred, r.top, r.first, r.threads);
+    if k != NONE {
         return refuse(r, k);
     }
-    refuse(r, WRONG_LINE)
+    clear(lens, r.threads);
+    Read {
+        stage: Stage::Ops,
+        pred,
+        count: 0,
+        ..counted(r)
+    }
 }
 
+#[tactic(auto, unfolding(scenario::specs::Scenario::taken))]
 fn on_op(
     r: Read,
     t: u64,
@@ -181,30 +188,35 @@ fn on_op(
 {
     let n = lock_scripts::length_at(lens, t);
     let k = op_refusal(r, t, code, value, n);
-    if k == NONE {
-        store(lens, t, n + 1);
-        store(ops, r.count, code);
-        store(vals, r.count, value);
-        return add_op(r, t);
+    if k != NONE {
+        return refuse(r, k);
     }
-    refuse(r, k)
+    store(lens, t, n + 1);
+    store(ops, r.count, code);
+    store(vals, r.count, value);
+    Read {
+        thread: t,
+        count: r.count.wrapping_add(1),
+        ..counted(r)
+    }
 }
 
+#[tactic(auto, unfolding(scenario::specs::Scenario::taken))]
 fn on_run(r: Read, t: u64, times: u64) -> Read
     ensures { result ≡ after_line (refusal_at r [] (Run t times)) r (Run t times) }
 {
-    let stage = r.stage;
-    if misses(stage) {
+    if misses(r.stage) {
         return refuse(r, WRONG_LINE);
     }
-    let pred = r.pred;
-    let mut s = step(r, Stage::Runs, pred);
-    s.run_thread = t;
-    s.run_left = times;
-    s
+    Read {
+        stage: Stage::Runs,
+        run_thread: t,
+        run_left: times,
+        ..counted(r)
+    }
 }
 
-// ---- the refusals
+// ---- the refusals: numbers with 0 for none, as `setup_refusal` and `op_number`, which the contracts name, have them
 
 // 1 to 4: what setup answers where no thread has an operation.
 fn setup_number(pred: Pred, top: u64, first: u64, threads: u64) -> u64
@@ -222,21 +234,14 @@ fn ask(pred: Pred, top: u64, first: u64, none: &[u64], threads: u64) -> u64
     requires { threads ≤ length none.now }
     ensures { result ≡ setup_refusal pred top first (lists (take threads none.now) [] []) threads }
 {
-    let rec = lock_words::plain(0, Place::Idle);
-    let recs = [rec; 16];
-    let n = threads as usize;
-    let begun = setup::setup(
-        pred,
-        Count(top),
-        first,
-        &none[..n],
-        &none[..0],
-        &none[..0],
-        recs,
-        threads,
-    );
-    let start = begun.start;
-    match start {
+    let lists = Lists {
+        lens: &none[..threads as usize],
+        ops: &[],
+        vals: &[],
+    };
+    let recs = [lock_words::plain(0, Place::Idle); 16];
+    let begun = setup::setup(pred, Count(top), first, lists, recs, threads);
+    match begun.start {
         Ok(_) => NONE,
         Err(why) => why.number,
     }
@@ -246,14 +251,7 @@ fn ask(pred: Pred, top: u64, first: u64, none: &[u64], threads: u64) -> u64
 fn op_refusal(r: Read, t: u64, code: u64, value: u64, n: u64) -> u64
     ensures { result ≡ (if misplaced (outline r) (Op t code value) then wrong_line else op_number n code value) }
 {
-    let stage = r.stage;
-    if !is_at(stage, Stage::Ops) {
-        return WRONG_LINE;
-    }
-    if r.threads <= t {
-        return WRONG_LINE;
-    }
-    if t < r.thread {
+    if r.stage != Stage::Ops || r.threads <= t || t < r.thread {
         return WRONG_LINE;
     }
     if LONGEST_SCRIPT <= n {
@@ -271,101 +269,36 @@ fn op_refusal(r: Read, t: u64, code: u64, value: u64, n: u64) -> u64
 pub fn stage_no(stage: Stage) -> u64
     ensures { result ≡ stage_no stage }
 {
-    match stage {
-        Stage::Header => 0,
-        Stage::Lock => 1,
-        Stage::Pred => 2,
-        Stage::Ops => 3,
-        Stage::Runs => 4,
-    }
-}
-
-// Whether the two stages are one.
-fn is_at(stage: Stage, other: Stage) -> bool
-    ensures { result ≡ at stage other }
-{
-    stage_no(stage) == stage_no(other)
+    stage as u64
 }
 
 // The header, the lock line or the pred line is still to come.
 fn misses(stage: Stage) -> bool
     ensures { result ≡ nat_lt (stage_no stage) 3 }
 {
-    stage_no(stage) < stage_no(Stage::Ops)
-}
-
-// A kind above 2 is refused as a bad parameter is.
-fn pred_of(named: Option<Pred>) -> Pred
-    ensures { result ≡ pred_of named }
-{
-    match named {
-        Some(q) => q,
-        None => Pred::Parity(2),
-    }
+    stage < Stage::Ops
 }
 
 fn refuse(r: Read, k: u64) -> Read
     ensures { result ≡ refused_by r k }
 {
-    let stage = r.stage;
-    let pred = r.pred;
-    let mut s = step(r, stage, pred);
-    s.refused = k;
-    s
-}
-
-// A line is counted, with this stage and this predicate after it.
-fn step(r: Read, stage: Stage, pred: Pred) -> Read
-    ensures { result ≡ record {
-      line = counted_on r.line;
-      refused = 0;
-      stage = stage;
-      top = r.top;
-      first = r.first;
-      threads = r.threads;
-      pred = pred;
-      thread = r.thread;
-      count = r.count;
-      run_thread = 0;
-      run_left = 0;
-    } }
-{
     Read {
-        line: std::num::wrapping_add_u64(r.line, 1),
-        refused: NONE,
-        stage,
-        top: r.top,
-        first: r.first,
-        threads: r.threads,
-        pred,
-        thread: r.thread,
-        count: r.count,
-        run_thread: 0,
-        run_left: 0,
+        refused: Some(k),
+        ..counted(r)
     }
 }
 
-fn add_op(r: Read, t: u64) -> Read
-    ensures { result ≡ record {
-      line = counted_on r.line;
-      refused = 0;
-      stage = r.stage;
-      top = r.top;
-      first = r.first;
-      threads = r.threads;
-      pred = r.pred;
-      thread = t;
-      count = counted_on r.count;
-      run_thread = 0;
-      run_left = 0;
-    } }
+// A line is counted, which is not refused and adds no entries; all else is as before it.
+fn counted(r: Read) -> Read
+    ensures { result ≡ keeping (counted_on r.line) None (outline r) r.count 0 0 }
 {
-    let stage = r.stage;
-    let pred = r.pred;
-    let mut s = step(r, stage, pred);
-    s.thread = t;
-    s.count = std::num::wrapping_add_u64(r.count, 1);
-    s
+    Read {
+        line: r.line.wrapping_add(1),
+        refused: None,
+        run_thread: 0,
+        run_left: 0,
+        ..r
+    }
 }
 
 // ---- the lists
@@ -374,6 +307,7 @@ fn add_op(r: Read, t: u64) -> Read
 fn store(list: &mut [u64], at: u64, v: u64)
     ensures { list.new ≡ slice_set list.old at v }
 {
+    // `get_mut` says nothing of what the list ends as.
     if at < list.len() as u64 {
         list[at as usize] = v;
     }
@@ -383,10 +317,6 @@ fn store(list: &mut [u64], at: u64, v: u64)
 fn clear(list: &mut [u64], n: u64)
     ensures { list.new ≡ cleared n list.old }
 {
-    let end = lock_words::smaller(n, list.len() as u64);
-    let mut k = 0;
-    while k < end {
-        list[k as usize] = 0;
-        k += 1;
-    }
+    let end = n.min(list.len() as u64) as usize;
+    list[..end].fill(0);
 }

@@ -1,6 +1,5 @@
--- `write_rows` meets its contract. The loop's invariant: storing here the rows that are left is storing all of them at the start. The measure is
--- how many are left. Assumes nothing.
-use Rattle.std.proofs.Common.{arith}
+-- `write_rows` meets its contract. The loop's invariant: storing here the rows that are left is storing all of them at the start. Assumes nothing.
+use Rattle.std.proofs.Common.{refl, arith}
 use Rattle.scenario_prints.proofs.PutRows.{begins, one_more, all_done}
 use Rattle.scenario_prints.proofs.write_rows.Goals as goal
 
@@ -11,13 +10,12 @@ loop-k-init c =
 
 pub loop-k-preserved : goal.loop-k-preserved
 loop-k-preserved c =
-    let start = c in
-    let a = start.args in
+    let a = c.args in
     let g = c.loop-k in
     let put = c.put_row-p in
     one_more a.trace.now a.n a.first a.out.now a.at g.out g.row g.p g.k g.invariant
-    _ _ _ _ c.loop-k-test.true start.requires.n_in_bounds_2 c.row_at-r.ensures
-    put.ensures.value put.ensures.out_after c.wrapping_add_u64-row.ensures.value
+    _ _ _ _ c.loop-k-test.true c.requires.n_in_bounds_2 c.row_at-r.ensures
+    put.ensures.value put.ensures.out_after refl
 
 pub returns : goal.returns
 returns c =

@@ -1,17 +1,18 @@
--- `fill` meets its contract. The loop's invariant: what is to be stored from the start is what is to be stored from here on. The measure is
--- how many are left. Assumes nothing.
-use Rattle.std.proofs.Common.{replicate, sym, refl, ◌∙◌, length-set}
-use Rattle.scenario_read.proofs.Places.{sets_out, fills_one, fills_none}
+-- `fill` meets its contract. Assumes nothing.
+use Rattle.std.proofs.Common.{◌≡◌, ℕ, ◌+◌, ◌-◌, List, length, take, drop, sym, replicate, refl, ap, ◌∙◌, arith, length-take-le}
+use Rattle.std.proofs.lemmas.List.{length-drop}
+use borrow.Rule.Slice.PartMut.{put_mid}
+use Rattle.scenario_read.proofs.Places.{sets_out, fills_by}
 use Rattle.scenario_read.proofs.fill.Goals as goal
 
-pub loop-left-init : goal.loop-left-init
-loop-left-init c = (refl, refl)
+pub returns-then-from-len : goal.returns-then-from-len
+returns-then-from-len c =
+    let a = c.args in
+    let m = c.min.result in
+    let n = a.from + m - a.from in
+    let wide : length (take n (drop a.from a.list.now)) ≡ n = length-take-le n (drop a.from a.list.now) (omega (arith, length-drop a.from a.list.now, c.min.ensures)) in
+    let part = c.fill.ensures.after (λ y e. e) ∙ ap (λ (k : ℕ). replicate k a.v) wide in
+    ap (λ (l : List ℕ). put_mid a.from n a.list.now l) part ∙ fills_by a.list.now a.from a.n a.v m (a.from + m) c.if-from-len.true c.min.ensures refl
 
-pub returns-then-list-k : goal.returns-then-list-k
-returns-then-list-k c = let l = c.loop-left in sym (sets_out (replicate l.left c.args.v) l.list l.k c.if-list-k.true) ∙ l.invariant.1
-
-pub loop-left-preserved : goal.loop-left-preserved
-loop-left-preserved c = let l = c.loop-left in (length-set l.list l.k c.args.v ∙ l.invariant.0, fills_one l.list l.k l.left c.args.v c.loop-left-test.true ∙ l.invariant.1)
-
-pub returns : goal.returns
-returns c = let l = c.loop-left in sym (fills_none l.list l.k l.left c.args.v c.loop-left-test.false) ∙ l.invariant.1
+pub returns-else-from-len : goal.returns-else-from-len
+returns-else-from-len c = let a = c.args in sym (sets_out (replicate a.n a.v) a.list.now a.from (omega (arith, c.if-from-len.false)))

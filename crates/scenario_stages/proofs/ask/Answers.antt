@@ -5,19 +5,14 @@ use Rattle.lock.specs.declared.setup.Begun.{Begun}
 use Rattle.scenario_stages.proofs.Asks.{start_no, answered}
 use Rattle.scenario_stages.proofs.ask.Goals as goal
 
-pub slice_bounds-setup-end : goal.slice_bounds-setup-end
-slice_bounds-setup-end c =
+pub returns-in-Ok : goal.returns-in-Ok
+returns-in-Ok c =
     let a = c.args in
-    sym (length-take-le a.threads a.none.now c.requires)
-
-pub returns-in-Made : goal.returns-in-Made
-returns-in-Made c =
-    let a = c.args in
-    ap start_no (sym c.in-Made.is) ∙ ap (λ (b : Begun). start_no b.start) c.setup-begun.ensures
+    ap start_no (sym c.in-Ok.is) ∙ ap (λ (b : Begun). start_no b.start) c.setup-begun.ensures
     ∙ answered a.pred a.top a.first (lists (take a.threads a.none.now) [] []) a.threads
 
-pub returns-in-Refused : goal.returns-in-Refused
-returns-in-Refused c =
+pub returns-in-Err : goal.returns-in-Err
+returns-in-Err c =
     let a = c.args in
-    ap start_no (sym c.in-Refused.is) ∙ ap (λ (b : Begun). start_no b.start) c.setup-begun.ensures
+    ap start_no (sym c.in-Err.is) ∙ ap (λ (b : Begun). start_no b.start) c.setup-begun.ensures
     ∙ answered a.pred a.top a.first (lists (take a.threads a.none.now) [] []) a.threads

@@ -1,5 +1,0 @@
--- `is_at` meets its contract: it compares the stages' numbers. Assumes nothing.
-use Rattle.scenario_stages.proofs.is_at.Goals as goal
-
-pub returns : goal.returns
-returns c = simp (c.stage_no.ensures, c.stage_no-2.ensures)
