@@ -15,6 +15,7 @@ pub fn numbers(text: &[u8], words: &mut [u64]) -> Option<usize>
 {
     let mut n = 0;
     let mut at = 0;
+    // No `for`: where the next number starts, the comma behind this one tells.
     loop {
         let end = find(text, at, b',');
         if !put(words, n, parse_number(part(text, at, end))) {
