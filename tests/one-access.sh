@@ -35,18 +35,18 @@ at_idle:
 at_reading:
 at_take:
 at_writing:
-load_rc: lock_access::load_count 3
-try_rc: lock_access::exchange_count 3
+load_rc: lock_access::load_count 1
+try_rc: lock_access::exchange_count 1
 load_exc: lock_access::load_flag 1
-give_back: lock_access::lower_count 3
-lend: lock_access::borrow_cell 3
-release: lock_access::lower_count 3
+give_back: lock_access::lower_count 1
+lend: lock_access::borrow_cell 1
+release: lock_access::lower_count 1
 drop_read:
 try_exc: lock_access::raise_flag 1
-wait_rc: lock_access::load_count 3
-take: lock_access::take_cell 3
-take_last: lock_access::take_cell 3
-put: lock_access::put_cell 3
+wait_rc: lock_access::load_count 1
+take: lock_access::take_cell 1
+take_last: lock_access::take_cell 1
+put: lock_access::put_cell 1
 store: lock_access::clear_flag 1
 drop_write:
 next:
@@ -95,12 +95,12 @@ if [ -n "$found" ]; then
     echo "$found" >&2
     exit 1
 fi
-wrong lock/src/table.rt 'lock_access::borrow_cell(cell)' 'OnCell { got: value_of(cell), left: cell }'
+wrong lock/src/table.rt 'lock_access::borrow_cell(lock\.cell)' 'OnCell { got: value_of(lock.cell), left: lock.cell }'
 wrong lock/src/table.rt 'let x = lock_access::load_flag(lock.exc);' 'let x = lock_access::load_flag(lock.exc); lock_access::load_count(lock.rc);'
 wrong lock/src/table.rt 'if x\.old {' 'if lock.exc {'
-wrong lock/src/table.rt 'let old = x\.old;' 'let old = rc;'
+wrong lock/src/table.rt 'let old = lock_access::load_count(lock\.rc)\.old;' 'let old = lock.rc;'
 wrong lock_access/src/lib.rt 'cell_told(value::borrow(CELL, cell_perm(CELL, cell)))' 'value::borrow(CELL, cell_perm(CELL, cell)); OnCell { got: value_of(cell), left: cell }'
 wrong lock_access/src/lib.rt 'atomic_u64::fetch_sub(' 'atomic_u64::swap('
 wrong lock/src/entry.rt 'lock\.finished ||' 'lock_access::load_flag(lock.exc).old ||'
-wrong lock_words/src/lib.rt 'let pred = lock\.pred;' 'let pred = lock.pred; value::take(CELL, perm);'
+wrong lock_words/src/lib.rt 'mover == Some(i)' 'value::take(CELL, perm); mover == Some(i)'
 echo "one-access: the 12 accesses of the table, each made once; 8 wrong programs seen"

@@ -17,8 +17,8 @@ pub(crate) struct Entered {
     pub(crate) row: Row,
 }
 
-#[tactic(auto, unfolding(crate::specs::Entered::entered_of))]
 // Thread i has a script of the length len, and at its script place the operation op with the value v; so many records are not Idle.
+#[tactic(auto, unfolding(crate::specs::Entered::entered_of))]
 pub(crate) fn enter(lock: Lock, rec: Rec, i: u64, len: u64, busy: u64, op: u64, v: u64) -> Entered
     requires room { rec.at < len → Room lock rec }
     requires rec_bound { busy_of rec ≤ busy }
