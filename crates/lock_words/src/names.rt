@@ -1,4 +1,5 @@
 // The numbers of the rules, by name, as machine's specs/Names has them.
+// Operations and access codes are words of the lists that are lent and of the rows: an enum would only be made of them and turned back.
 ghost use Rattle.std.specs.Prelude.{◌≡◌};
 ghost use Rattle.lock_words.specs.Refused.{number_of, alone};
 
