@@ -67,13 +67,13 @@ module _ (s : Lent) (p : Standing) (es out : List ℕ) (at : ℕ) (room : at + r
   unfolding run_of
   run_refused some = rw some refl
 
-  pub few : (r : RunReturn) → r ≡ ran_of (length s.lens) p.recs left → r.n ≤ length (piece es)
+  pub few : (r : RunReturn) → r ≡ ran_of (length s.lens) p.recs left → r.ran.n ≤ length (piece es)
   few r is = go (eqb (refusal_of s p) 0) refl
     where
-      count : r.n ≡ left.n
-      count = ap (λ (x : RunReturn). x.n) is
+      count : r.ran.n ≡ left.n
+      count = ap (λ (x : RunReturn). x.ran.n) is
 
-      go : (b : Bool) → eqb (refusal_of s p) 0 ≡ b → r.n ≤ length (piece es)
+      go : (b : Bool) → eqb (refusal_of s p) 0 ≡ b → r.ran.n ≤ length (piece es)
       go true e =
           let all = count ∙ ap (λ (x : RunLeft). x.n) (run_made (eqb-true _ 0 e)) in
           omega (arith, many)
@@ -93,9 +93,9 @@ module _ (s : Lent) (p : Standing) (es out : List ℕ) (at : ℕ) (room : at + r
   -- r and trace' are what the run leaves, end and out' the place and the list afterwards
   module _
       (r : RunReturn) (trace' : List ℕ) (is : r ≡ ran_of (length s.lens) p.recs left) (trace_is : trace' ≡ left.trace)
-      (end : ℕ) (end_is : end ≡ at + row_words * r.n) (out' : List ℕ) (out_is : out' ≡ take at out ++ trace') where
+      (end : ℕ) (end_is : end ≡ at + row_words * r.ran.n) (out' : List ℕ) (out_is : out' ≡ take at out ++ trace') where
     abbrev told : Left
-    told = record { standing = record { lock = r.lock; recs = r.recs }; at = end }
+    told = record { standing = record { lock = r.ran.lock; recs = r.recs }; at = end }
 
     pub piece_told : (told ≡ ran_left s p es at) × (out' ≡ ran_stored s p es out at)
     unfolding ran_left ran_stored
@@ -107,8 +107,8 @@ module _ (s : Lent) (p : Standing) (es out : List ℕ) (at : ℕ) (room : at + r
         go true e =
             let made = run_made (eqb-true _ 0 e) in
             let all = is ∙ ap (ran_of (length s.lens) p.recs) made in
-            let count : r.n ≡ n = ap (λ (x : RunReturn). x.n) all in
-            let lock = ap (λ (x : RunReturn). x.lock) all in
+            let count : r.ran.n ≡ n = ap (λ (x : RunReturn). x.ran.n) all in
+            let lock = ap (λ (x : RunReturn). x.ran.lock) all in
             let recs = ap (λ (x : RunReturn). x.recs) all in
             let place : end ≡ at + length (words_in s p es) = omega (arith, end_is, count, many, six_each s p es) in (
               λ j. record { standing = record { lock = lock j; recs = recs j }; at = place j },
@@ -117,8 +117,8 @@ module _ (s : Lent) (p : Standing) (es out : List ℕ) (at : ℕ) (room : at + r
         go false e =
             let refused = run_refused e in
             let all = is ∙ ap (ran_of (length s.lens) p.recs) refused in
-            let count : r.n ≡ 0 = ap (λ (x : RunReturn). x.n) all in
-            let lock = ap (λ (x : RunReturn). x.lock) all in
+            let count : r.ran.n ≡ 0 = ap (λ (x : RunReturn). x.ran.n) all in
+            let lock = ap (λ (x : RunReturn). x.ran.lock) all in
             let recs = ap (λ (x : RunReturn). x.recs) all ∙ take-append-drop (length s.lens) p.recs in
             let place : end ≡ at = omega (arith, end_is, count) in (
               λ j. record { standing = record { lock = lock j; recs = recs j }; at = place j },

@@ -58,7 +58,7 @@ fn run_there(lists: Lists, s: Standing, entries: &[u64], rows: &mut [u64], at: u
     ensures value { result ≡ ran_left (lent lists.entry) s entries.now at }
     ensures rows_after { rows.new ≡ ran_stored (lent lists.entry) s entries.now rows.old at }
 {
-    let ran = run::run(
+    let done = run::run(
         lists,
         s.lock,
         s.recs,
@@ -67,12 +67,12 @@ fn run_there(lists: Lists, s: Standing, entries: &[u64], rows: &mut [u64], at: u
         ENTRIES,
         &mut rows[at..],
     );
-    let recs = ran.recs;
+    let recs = done.recs;
     Left {
         standing: Standing {
-            lock: ran.lock,
+            lock: done.ran.lock,
             recs,
         },
-        at: at + ROW_WORDS * ran.n as usize,
+        at: at + ROW_WORDS * done.ran.n as usize,
     }
 }

@@ -13,20 +13,20 @@ overflow_mul-result c =
     let a = c.args in
     let s = lent a.lists in
     let run = λ (l : List ℕ). ran_of (length s.lens) a.s.recs (run_of s (length s.lens) a.s.lock a.s.recs a.entries.now most_entries l) in
-    omega (arith, few s a.s a.entries.now a.rows.now a.at c.requires _ (c.run-ran.ensures.value ∙ ap run (tail_is a.at a.rows.now)), c.requires, c.well_formed)
+    omega (arith, few s a.s a.entries.now a.rows.now a.at c.requires _ (c.run-done.ensures.value ∙ ap run (tail_is a.at a.rows.now)), c.requires, c.well_formed)
 
 pub overflow_add-result : goal.overflow_add-result
 overflow_add-result c =
     let a = c.args in
     let s = lent a.lists in
     let run = λ (l : List ℕ). ran_of (length s.lens) a.s.recs (run_of s (length s.lens) a.s.lock a.s.recs a.entries.now most_entries l) in
-    omega (arith, few s a.s a.entries.now a.rows.now a.at c.requires _ (c.run-ran.ensures.value ∙ ap run (tail_is a.at a.rows.now)), c.requires, c.well_formed)
+    omega (arith, few s a.s a.entries.now a.rows.now a.at c.requires _ (c.run-done.ensures.value ∙ ap run (tail_is a.at a.rows.now)), c.requires, c.well_formed)
 
 pub returns : goal.returns
 returns c =
     let a = c.args in
     let s = lent a.lists in
-    let ran = c.run-ran.ensures in
+    let ran = c.run-done.ensures in
     let part = tail_is a.at a.rows.now in
     let left = λ (l : List ℕ). run_of s (length s.lens) a.s.lock a.s.recs a.entries.now most_entries l in
     let is = ran.value ∙ ap (λ (l : List ℕ). ran_of (length s.lens) a.s.recs (left l)) part in
