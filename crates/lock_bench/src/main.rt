@@ -110,8 +110,9 @@ fn round(state: State, schedule: &[u64], trace: &mut [u64]) -> State {
         vals: &VALS,
     };
     let State { lock, recs, .. } = state;
-    let ran = run::run(lists, lock, recs, 3, schedule, u64::MAX, trace);
-    let recs = ran.recs;
+    let left = run::run(lists, lock, recs, 3, schedule, u64::MAX, trace);
+    let ran = left.ran;
+    let recs = left.recs;
     State {
         lock: ran.lock,
         recs,

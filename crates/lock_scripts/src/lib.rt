@@ -7,9 +7,7 @@ ghost use Rattle.machine.specs.Refusals.{lowest};
 ghost use Rattle.machine.specs.Lists.{lent, total, start, wrong, list_checks, answered};
 ghost use Rattle.lock_scripts.specs.Checks.{below, fit, code_check, place_from};
 
-use lock_words::names::{
-    INTO_INNER, LONGEST_SCRIPT, RELEASE_WRITE, SCRIPT_TOO_LONG, WRONG_CODE, WRONG_LENGTHS,
-};
+use lock_words::names::{INTO_INNER, LONGEST_SCRIPT, RELEASE_WRITE, Refused};
 use machine::{Lists, Refusal};
 
 // What is wrong with the lists or with the number of records: the lowest refusal. Each check is made only after those before it have
@@ -19,17 +17,13 @@ pub fn refused(lists: Lists, records: u64) -> Result<(), Refusal>
 {
     if let Some(long) = long_thread(lists.lens) {
         return Err(Refusal {
-            number: SCRIPT_TOO_LONG,
+            number: u64::from(Refused::ScriptTooLong),
             thread: long as u64,
             place: 0,
         });
     }
     if !lengths_fit(lists, records) {
-        return Err(Refusal {
-            number: WRONG_LENGTHS,
-            thread: 0,
-            place: 0,
-        });
+        return Err(Refusal::from(Refused::WrongLengths));
     }
     wrong_code(lists)
 }
@@ -101,7 +95,7 @@ fn wrong_code(lists: Lists) -> Result<(), Refusal>
     for (t, &n) in lists.lens.iter().enumerate() {
         if let Some(place) = wrong_place(lists.ops, lists.vals, from, n) {
             return Err(Refusal {
-                number: WRONG_CODE,
+                number: u64::from(Refused::WrongCode),
                 thread: t as u64,
                 place,
             });

@@ -20,7 +20,7 @@ returns-in-Some c =
     let there = c.loop-t-test.true in
     let f = below_some _ _ _ (sym c.wrong_place.ensures ∙ c.in-Some.is) in
     let k = place_there (lent c.args.lists) turn.t turn.from turn.invariant.1 in
-    rw (← f.1, k) (sym (wrong_found (lent c.args.lists) _ (found _ _ _ turn.invariant.0 there (lt-ltb _ _ (rw k at f.0))) there))
+    rw (c.from.ensures, ← f.1, k) (sym (wrong_found (lent c.args.lists) _ (found _ _ _ turn.invariant.0 there (lt-ltb _ _ (rw k at f.0))) there))
 
 pub overflow_add-from : goal.overflow_add-from
 overflow_add-from c =
