@@ -61,35 +61,13 @@ pub const NOTHING: u64 = 0;
 // Refusals.
 pub const NONE: u64 = 0;
 
-pub const SCRIPT_FINISHED: u64 = 12;
-
-pub const LOCK_GONE: u64 = 13;
-
-pub const DOES_NOT_FIT: u64 = 14;
-
-pub const OTHERS_BUSY: u64 = 15;
-
-pub const NOT_PERMITTED: u64 = 16;
-
 pub const THREAD_COUNT: u64 = 1;
 
-pub const TOP_IS_ZERO: u64 = 2;
-
-pub const BAD_PREDICATE: u64 = 3;
-
-pub const FIRST_VALUE: u64 = 4;
-
 pub const SCRIPT_TOO_LONG: u64 = 5;
-
-pub const WRONG_LENGTHS: u64 = 6;
 
 pub const WRONG_CODE: u64 = 7;
 
 pub const UNSOUND: u64 = 10;
-
-pub const NO_THREAD: u64 = 11;
-
-pub const UNTIDY: u64 = 17;
 
 pub const NO_ACCESS: u64 = 0;
 
