@@ -472,7 +472,7 @@ fn is_record(rec: Rec, numbers: &[u64]) -> bool {
 
 fn is_place(place: Place, number: u64) -> bool {
     match place_of(number) {
-        Some(named) => lock_words::is(place, named),
+        Some(named) => place == named,
         None => false,
     }
 }
@@ -483,7 +483,7 @@ fn numbers_of(lock: Lock, given: &[u64]) -> [u64; LOCK] {
     [
         u64::from(lock.exc),
         lock.rc.0,
-        lock_words::full(lock.cell),
+        u64::from(lock.cell.is_some()),
         value::kept(lock.cell),
         kind,
         a,
@@ -491,7 +491,7 @@ fn numbers_of(lock: Lock, given: &[u64]) -> [u64; LOCK] {
         lock.top.0,
         lock.reads.0,
         lock.writes.0,
-        lock_words::moving(lock.mover),
+        u64::from(lock.mover.is_some()),
         moved_by(lock.mover),
         u64::from(lock.finished),
     ]
