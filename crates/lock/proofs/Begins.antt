@@ -15,7 +15,7 @@ use Rattle.cell.specs.declared.pred.Pred.{Pred}
 use Rattle.machine.specs.Names.{script_too_long, wrong_code, most_threads}
 use Rattle.machine.specs.Words.{unbegun, unused}
 use Rattle.machine.specs.Refusals.{Check, lowest}
-use Rattle.machine.specs.Lists.{Lent, total, list_checks, beside}
+use Rattle.machine.specs.Lists.{Lent, total, list_checks, beside, answered}
 use Rattle.machine.specs.Setup.{fresh, setup_checks, setup_refusal, setup, setup_recs}
 use Rattle.machine.specs.declared.Rec.{Rec}
 use Rattle.machine.specs.declared.Refusal.{Refusal}
@@ -24,7 +24,9 @@ use Rattle.machine.proofs.Refusals.{passed}
 use Rattle.lock_scripts.specs.Checks.{fit}
 use Rattle.lock.specs.ByValue.{put_back, setup_of}
 use Rattle.lock.specs.Setup.{own_checks, begun_of}
-use Rattle.lock.proofs.Refusing.{earlier, later, number_beside}
+use Rattle.lock_words.specs.Refused.{number_of, alone}
+use Rattle.lock_words.specs.declared.names.Refused.{Refused}
+use Rattle.lock.proofs.Told.{Told, none_told, some_told, told_some, earlier, later, some_number}
 
 -- ---- the refusals
 -- the numbers are at most m
@@ -45,9 +47,6 @@ neither : (a b : Bool) → (a || b) ≡ false → b ≡ false
 neither true b e = absurd (true≢false e)
 neither false b e = e
 
-abbrev pub alone : ℕ → Refusal
-alone k = record { number = k; thread = 0; place = 0 }
-
 beside_nothing : (s : Lent) (k : ℕ) → k ≢ script_too_long → k ≢ wrong_code → beside s k ≡ alone k
 unfolding beside
 beside_nothing s k f g = rw (ne_eqb k script_too_long f, ne_eqb k wrong_code g) refl
@@ -66,6 +65,15 @@ module _ (q : Pred) (m v : ℕ) (s : Lent) (records : ℕ) where
       rw (earlier (own_checks q m v (length s.lens)) (list_checks s records) (λ z. some (e ∙ z)), ← e)
       (beside_nothing s k (λ f. omega arith) (λ f. omega arith))
 
+  pub own_told : (why : Refused) → number_of why ≡ lowest (own_checks q m v (length s.lens)) → ◌≡◌ {A = Told} (Err (alone (number_of why))) (answered s (setup_refusal q m v s records))
+  unfolding setup_refusal
+  own_told why e =
+      let some = some_number why in
+      let same : setup_refusal q m v s records ≡ number_of why =
+      earlier (own_checks q m v (length s.lens)) (list_checks s records) (λ z. some (e ∙ z)) ∙ sym e
+      in
+      rw (← own_decide (number_of why) e some) (told_some s (setup_refusal q m v s records) (λ z. some (sym same ∙ z)))
+
   -- where nothing is refused there are as many records as threads, 16 at most
   pub count_most : setup_refusal q m v s records ≡ 0 → records ≤ 16
   unfolding setup_refusal
@@ -78,21 +86,24 @@ module _ (q : Pred) (m v : ℕ) (s : Lent) (records : ℕ) where
       let same = ((and-eq-true_iff (eqb (length s.vals) n) (eqb records (length s.lens))).0 evenly).1 in
       omega (arith, ltb-false most_threads (length s.lens) few, eqb-true records (length s.lens) same)
 
--- ---- what setup leaves, by the refusal that was found
-module _ (q : Pred) (m v : ℕ) (s : Lent) (count : ℕ) (recs : List Rec) (why : Refusal) (e : why ≡ beside s (setup_refusal q m v s count)) where
-  number_is : why.number ≡ setup_refusal q m v s count
-  number_is = ap (λ (r : Refusal). r.number) e ∙ number_beside s _
+-- ---- what setup leaves, by what was answered
+module _ (q : Pred) (m v : ℕ) (s : Lent) (count : ℕ) (recs : List Rec) where
+  module _ (none : ◌≡◌ {A = Told} (Ok tt) (answered s (setup_refusal q m v s count))) where
+    zero_is : setup_refusal q m v s count ≡ 0
+    zero_is = none_told s (setup_refusal q m v s count) none
 
-  pub records_most : why.number ≡ 0 → count ≤ 16
-  records_most z = count_most q m v s count (sym number_is ∙ z)
+    pub records_most : count ≤ 16
+    records_most = count_most q m v s count zero_is
 
-  pub made : why.number ≡ 0 → begun_of q m v s count recs ≡ record { start = Ok (unused q m v); recs = put_back count recs (fresh count) }
+    pub made : begun_of q m v s count recs ≡ record { start = Ok (unused q m v); recs = put_back count recs (fresh count) }
+    unfolding setup setup_of
+    made = rw zero_is refl
+
+  pub kept : (why : Refusal) → ◌≡◌ {A = Told} (Err why) (answered s (setup_refusal q m v s count)) → begun_of q m v s count recs ≡ record { start = Err why; recs = recs }
   unfolding setup setup_of
-  made z = rw (← number_is, eq-eqb why.number 0 z) refl
-
-  pub kept : why.number ≢ 0 → begun_of q m v s count recs ≡ record { start = Err why; recs = recs }
-  unfolding setup setup_of
-  kept some = rw (ne_eqb (setup_refusal q m v s count) 0 (λ z. some (number_is ∙ z)), ← e) refl
+  kept why told =
+      let (some, is) = some_told s (setup_refusal q m v s count) why told in
+      rw (ne_eqb (setup_refusal q m v s count) 0 some, is) refl
 
 -- ---- the records
 one_more : (k : ℕ) → fresh k ++ (unbegun ∷ []) ≡ fresh (suc k)

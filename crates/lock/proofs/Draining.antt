@@ -1,6 +1,6 @@
 -- Drain as code: its refusals, its three parts, and that with a count of at most 16 it is machine's drain of the first records of the
 -- array.
-use Prim.Native.Nat.{ℕ, zero, suc, ◌<◌, ◌≤◌}
+use Prim.Native.Nat.{ℕ, zero, suc, ◌+◌, ◌<◌, ◌≤◌}
 use mathlib.Core.Path.{◌≡◌, refl, ap, sym, ◌∙◌}
 use mathlib.Core.Bool.{Bool, true, false, not}
 use mathlib.Core.List.{List, [], ◌∷◌, ◌++◌, append_assoc}
@@ -11,14 +11,16 @@ use lib.Seq.{take_at, length-take-le}
 use package.borrow.Author.Tests.{eqb-true, eqb-false, ne_eqb}
 use Rattle.machine.specs.Names.{untidy, most_threads}
 use Rattle.machine.specs.Refusals.{gives, lowest}
-use Rattle.machine.specs.Lists.{Lent, scripts_of, beside}
+use Rattle.machine.specs.Lists.{Lent, scripts_of, beside, answered}
 use Rattle.machine.specs.Step.{Scripts}
 use Rattle.machine.specs.Tidy.{tidy, bound}
 use Rattle.machine.specs.Drain.{Went, after, until, sweep, enough, drain, drain_refusal, drain_lent}
 use Rattle.machine.specs.declared.Lock.{Lock}
 use Rattle.machine.specs.declared.Rec.{Rec}
 use Rattle.machine.specs.declared.Refusal.{Refusal}
-use Rattle.machine.proofs.Refusals.{passed}
+use Rattle.std.specs.Prelude.{Ok, Err, Some, None}
+use Rattle.lock_words.specs.Refused.{alone}
+use Rattle.machine.proofs.Refusals.{passed, Passed}
 use Rattle.lock.specs.ByValue.{run_checks_of, run_refusal_of, drain_refusal_of, drain_of, bound_of}
 use Rattle.lock.specs.Run.{Ready}
 use Rattle.lock.specs.Drain.{stop_of, start_of, going_of, drained_of}
@@ -26,7 +28,8 @@ use Rattle.lock.specs.declared.drain.DrainReturn.{DrainReturn}
 use Rattle.lock.specs.declared.drain.Going.{Going}
 use Rattle.lock.specs.declared.drain.Stop.{Stop}
 use Rattle.lock.specs.declared.drain.Stop.TheVariants.{IdleOrWait, Idle as IdleOnly, End}
-use Rattle.lock.proofs.Refusing.{earlier, later, number_beside, none_refused}
+use Rattle.lock.proofs.Told.{Told, none_told, some_told, is_none, is_some, earlier, still, fine, applies}
+use Rattle.lock.proofs.Refusing.{none_refused}
 use Rattle.lock.proofs.Sweeps.{going_then, until_length}
 
 -- ---- the refusals
@@ -40,28 +43,28 @@ module _ (s : Lent) (count : ℕ) (L : Lock) (l : List Rec) where
       go true e = eqb-true _ 0 e
       go false e = let some = eqb-false _ 0 e in absurd (some (sym (earlier (run_checks_of s count L l) _ some) ∙ none))
 
-  -- `why` is run's refusal
-  module _ (why : Refusal) (of_run : why ≡ beside s (run_refusal_of s count L l)) where
-    number_of : why.number ≡ run_refusal_of s count L l
-    number_of = ap (λ (r : Refusal). r.number) of_run ∙ number_beside s _
+  pub run_refuses : (why : Refusal) → ◌≡◌ {A = Told} (Err why) (answered s (run_refusal_of s count L l)) → ◌≡◌ {A = Told} (Err why) (answered s (drain_refusal_of s count L l))
+  unfolding drain_refusal_of run_refusal_of
+  run_refuses = still s (run_checks_of s count L l) (gives untidy (not (tidy (scripts_of s) L l)) ∷ [])
 
-    pub run_refuses : (why.number ≡ 0 → ⊥) → why ≡ beside s (drain_refusal_of s count L l)
-    unfolding drain_refusal_of run_refusal_of
-    run_refuses some = rw (earlier (run_checks_of s count L l) (gives untidy (not (tidy (scripts_of s) L l)) ∷ []) (λ z. some (number_of ∙ z))) of_run
+  module _ (none : ◌≡◌ {A = Told} (Ok tt) (answered s (run_refusal_of s count L l))) where
+    pass : Passed (run_checks_of s count L l)
+    unfolding run_refusal_of
+    pass = passed 0 (run_checks_of s count L l) (omega arith) (none_told s (lowest (run_checks_of s count L l)) none)
 
-    module _ (none : why.number ≡ 0) where
-      then : drain_refusal_of s count L l ≡ lowest (gives untidy (not (tidy (scripts_of s) L l)) ∷ [])
-      unfolding drain_refusal_of run_refusal_of
-      then = later (run_checks_of s count L l) _ (passed 0 (run_checks_of s count L l) (omega arith) (sym number_of ∙ none))
+    pub none_refuse : tidy (scripts_of s) L l ≡ true → ◌≡◌ {A = Told} (Ok tt) (answered s (drain_refusal_of s count L l))
+    unfolding drain_refusal_of
+    none_refuse e = fine s (run_checks_of s count L l) pass untidy (not (tidy (scripts_of s) L l)) (ap not e)
 
-      pub none_refuse : tidy (scripts_of s) L l ≡ true → why ≡ beside s (drain_refusal_of s count L l)
-      unfolding lowest
-      none_refuse e = rw (then, e) (of_run ∙ ap (beside s) (sym number_of ∙ none))
+    pub untidy_refused : tidy (scripts_of s) L l ≡ false → ◌≡◌ {A = Told} (Err (alone untidy)) (answered s (drain_refusal_of s count L l))
+    unfolding drain_refusal_of beside
+    untidy_refused e = applies s (run_checks_of s count L l) pass untidy (not (tidy (scripts_of s) L l)) (ap not e) (λ z. absurd (omega arith)) refl
 
-      pub untidy_refused : tidy (scripts_of s) L l ≡ false
-          → ◌≡◌ {A = Refusal} (record { number = untidy; thread = 0; place = 0 }) (beside s (drain_refusal_of s count L l))
-      unfolding lowest beside
-      untidy_refused e = rw (then, e)
+-- where run is not refused there are as many records as threads, 16 at most
+pub few_records : (s : Lent) (count : ℕ) (L : Lock) (recs : List Rec) → ◌≡◌ {A = Told} (Ok tt) (answered s (run_refusal_of s count L (take count recs))) → count ≤ 16
+few_records s count L recs none =
+    let (same, ready) = none_refused s count L recs (none_told s (run_refusal_of s count L (take count recs)) none) in
+    omega (arith, same, ready.threads)
 
 -- ---- the three parts
 pub sweep_length : (stop : ℕ → Rec → Bool) (S : Scripts) (f k c : ℕ) (L : Lock) (l : List Rec) → length (sweep stop S f k c L l).recs ≡ length l
@@ -104,49 +107,43 @@ module _ (s : Lent) (L : Lock) (recs : List Rec) (size : length (take (length s.
       ∙ part_then s End f g (after a.made b) second
       ∙ ap (λ (es : List ℕ). going_of s g (record { lock = c.lock; recs = c.recs; made = es })) whole)
 
--- ---- what drain leaves, by the refusal that was found
-module _ (s : Lent) (count : ℕ) (L : Lock) (recs : List Rec) (why : Refusal) (is : why ≡ beside s (drain_refusal_of s count L (take count recs))) where
-  number_is : why.number ≡ drain_refusal_of s count L (take count recs)
-  number_is = ap (λ (r : Refusal). r.number) is ∙ number_beside s _
-
-  pub ready : why.number ≡ 0 → Ready s L recs
-  ready none = (none_refused s count L recs (none_of_run s count L (take count recs) (sym number_is ∙ none))).1
-
-  pub left_alone : (why.number ≡ 0 → ⊥) → ◌≡◌ {A = DrainReturn} (record { refusal = why; n = 0; lock = L; recs = recs }) (drained_of count recs (drain_of s count L recs))
+-- ---- what drain leaves, by what was answered
+module _ (s : Lent) (count : ℕ) (L : Lock) (recs : List Rec) where
+  pub left_alone : (why : Refusal) → ◌≡◌ {A = Told} (Err why) (answered s (drain_refusal_of s count L (take count recs)))
+      → ◌≡◌ {A = DrainReturn} (record { drained = record { refusal = Some why; n = 0; lock = L }; recs = recs }) (drained_of count recs (drain_of s count L recs))
   unfolding drain_of
-  left_alone some = rw (ne_eqb _ 0 (λ z. some (number_is ∙ z)), ← is, take-append-drop count recs) refl
+  left_alone why told =
+      let k = drain_refusal_of s count L (take count recs) in
+      let (some, is) = some_told s k why told in
+      rw (ne_eqb k 0 some, is_some s k some, is, take-append-drop count recs) refl
 
-  pub made : (g : Going) → why.number ≡ 0 → g ≡ going_of s (start_of s L recs) (drain (scripts_of s) L (take (length s.lens) recs))
-      → ◌≡◌ {A = DrainReturn} (record { refusal = why; n = g.used; lock = g.lock; recs = g.recs }) (drained_of count recs (drain_of s count L recs))
-  unfolding drain_of
-  made g none e =
-      let zero = sym number_is ∙ none in
-      let same = (none_refused s count L recs (none_of_run s count L (take count recs) zero)).0 in
-      let w = drain (scripts_of s) L (take (length s.lens) recs) in
-      let used : g.used ≡ length w.made = omega (arith, ap (λ (x : Going). x.used) e) in
-      let shape : ◌≡◌ {A = DrainReturn} (record { refusal = why; n = g.used; lock = g.lock; recs = g.recs })
-      (record { refusal = beside s 0; n = length w.made; lock = w.lock; recs = w.recs ++ drop (length s.lens) recs }) =
-      λ j.
-      record {
-        refusal = (is ∙ ap (beside s) zero) j;
-        n = used j;
-        lock = ap (λ (x : Going). x.lock) e j;
-        recs = ap (λ (x : Going). x.recs) e j;
-      }
-      in
-      rw (zero, same) shape
-
-  -- ---- the bound
-  pub no_bound : (why.number ≡ 0 → ⊥) → 0 ≡ bound_of s count L recs
+  pub no_bound : (why : Refusal) → ◌≡◌ {A = Told} (Err why) (answered s (drain_refusal_of s count L (take count recs))) → 0 ≡ bound_of s count L recs
   unfolding bound_of
-  no_bound some = rw (ne_eqb _ 0 (λ z. some (number_is ∙ z))) refl
+  no_bound why told =
+      let k = drain_refusal_of s count L (take count recs) in
+      rw (ne_eqb k 0 (some_told s k why told).0) refl
 
-  pub bound_told : why.number ≡ 0 → bound (scripts_of s) (take (length s.lens) recs) ≡ bound_of s count L recs
-  unfolding bound_of
-  bound_told none =
-      let zero = sym number_is ∙ none in
-      let same = (none_refused s count L recs (none_of_run s count L (take count recs) zero)).0 in
-      rw (zero, same) refl
+  module _ (none : ◌≡◌ {A = Told} (Ok tt) (answered s (drain_refusal_of s count L (take count recs)))) where
+    zero_is : drain_refusal_of s count L (take count recs) ≡ 0
+    zero_is = none_told s (drain_refusal_of s count L (take count recs)) none
+
+    both : (count ≡ length s.lens) × Ready s L recs
+    both = none_refused s count L recs (none_of_run s count L (take count recs) zero_is)
+
+    pub ready : Ready s L recs
+    ready = both.1
+
+    pub made : (g : Going) → g ≡ going_of s (start_of s L recs) (drain (scripts_of s) L (take (length s.lens) recs))
+        → ◌≡◌ {A = DrainReturn} (record { drained = record { refusal = None; n = g.used; lock = g.lock }; recs = g.recs }) (drained_of count recs (drain_of s count L recs))
+    unfolding drain_of
+    made g e =
+        let w = drain (scripts_of s) L (take (length s.lens) recs) in
+        let used : 0 + length w.made ≡ length w.made = omega arith in
+        rw (zero_is, both.0, is_none s 0 refl, e, used) refl
+
+    pub bound_told : bound (scripts_of s) (take (length s.lens) recs) ≡ bound_of s count L recs
+    unfolding bound_of
+    bound_told = rw (zero_is, both.0) refl
 
 -- ---- with a count of at most 16
 module _ (s : Lent) (count : ℕ) (L : Lock) (recs : List Rec) where

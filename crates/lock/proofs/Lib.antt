@@ -1,3 +1,4 @@
+pub mod Told
 pub mod Busy
 pub mod Room
 pub mod Turn

@@ -9,19 +9,23 @@ use lib.ListN.{length, get_or, take, take-append-drop}
 use package.borrow.Author.Tests.{ltb-false, leb-true, leb-false, eqb-true, lt-ltb, le-ltb, ne_eqb, not-false}
 use Rattle.machine.specs.Names.{unsound, most_threads, longest_script}
 use Rattle.machine.specs.Refusals.{Check, gives, lowest}
-use Rattle.machine.specs.Lists.{Lent, start, scripts_of, long_thread, list_checks, beside}
+use Rattle.machine.specs.Lists.{Lent, start, scripts_of, long_thread, list_checks, beside, answered}
 use Rattle.lock_scripts.proofs.Starts.{start_later, start_last}
 use Rattle.machine.specs.Sound.{sound}
 use Rattle.machine.specs.Run.{entries}
 use Rattle.machine.specs.declared.Lock.{Lock}
 use Rattle.machine.specs.declared.Rec.{Rec}
 use Rattle.machine.specs.declared.Refusal.{Refusal}
+use Rattle.std.specs.Prelude.{Ok, Err, Some}
+use Rattle.lock_words.specs.Refused.{alone}
 use Rattle.machine.proofs.Refusals.{passed, Passed}
 use Rattle.machine.proofs.Find.{first}
 use Rattle.machine.proofs.SoundTest.{sound_tested}
 use Rattle.lock.specs.ByValue.{run_checks_of, run_refusal_of, run_of}
 use Rattle.lock.specs.Run.{ran_of, ready_of, Ready}
 use Rattle.lock.specs.declared.run.RunReturn.{RunReturn}
+use Rattle.lock.proofs.Told.{Told, number_beside, none_told, some_told, is_some, still, fine, applies}
+pub use Rattle.lock.proofs.Told.{number_beside, earlier, later}
 
 -- the two tests of an order are each other's opposite
 pub leb_ltb : (a b : ℕ) → leb a b ≡ not (ltb b a)
@@ -31,52 +35,41 @@ leb_ltb a b = go (leb a b) refl
     go true e = rw (e, le-ltb b a (leb-true a b e))
     go false e = rw (e, lt-ltb b a (leb-false a b e))
 
--- ---- checks with more checks after them
-pub earlier : (cs ds : List Check) → (lowest cs ≡ 0 → ⊥) → lowest (cs ++ ds) ≡ lowest cs
-unfolding lowest
-earlier [] ds h = absurd (h refl)
-earlier (c ∷ cs) ds h = go c.applies h (earlier cs ds)
-  where
-    go : (b : Bool) → (cond b c.number (lowest cs) ≡ 0 → ⊥) → ((lowest cs ≡ 0 → ⊥) → lowest (cs ++ ds) ≡ lowest cs)
-        → cond b c.number (lowest (cs ++ ds)) ≡ cond b c.number (lowest cs)
-    go true some more = refl
-    go false some more = more some
-
-pub later : (cs ds : List Check) → Passed cs → lowest (cs ++ ds) ≡ lowest ds
-unfolding lowest
-later [] ds p = refl
-later (c ∷ cs) ds p = rw p.0 (later cs ds p.1)
-
 -- ---- a run's
 -- 10 applies
 abbrev pub bad : Lent → Lock → List Rec → Bool
 bad s L l = eqb (length s.lens) 0 || (ltb most_threads (length s.lens) || not (sound (scripts_of s) L l))
 
-pub number_beside : (s : Lent) (k : ℕ) → (beside s k).number ≡ k
-unfolding beside
-number_beside s k = refl
+neither : (a b : Bool) → not (a || b) ≡ true → b ≡ false
+neither true b e = absurd (true≢false (sym e))
+neither false true e = absurd (true≢false (sym e))
+neither false false e = refl
 
--- `why` is what is wrong with the lists
-module _ (s : Lent) (count : ℕ) (L : Lock) (l : List Rec) (why : Refusal) (of_lists : why ≡ beside s (lowest (list_checks s count))) where
-  number_of : why.number ≡ lowest (list_checks s count)
-  number_of = ap (λ (r : Refusal). r.number) of_lists ∙ number_beside s _
-
-  pub lists_refuse : (why.number ≡ 0 → ⊥) → why ≡ beside s (run_refusal_of s count L l)
+-- `none` is answered of the lists
+module _ (s : Lent) (count : ℕ) (L : Lock) (l : List Rec) where
+  pub lists_refuse : (why : Refusal) → ◌≡◌ {A = Told} (Err why) (answered s (lowest (list_checks s count))) → ◌≡◌ {A = Told} (Err why) (answered s (run_refusal_of s count L l))
   unfolding run_refusal_of
-  lists_refuse some = rw (earlier (list_checks s count) (gives unsound (bad s L l) ∷ []) (λ z. some (number_of ∙ z))) of_lists
+  lists_refuse = still s (list_checks s count) (gives unsound (bad s L l) ∷ [])
 
-  module _ (none : why.number ≡ 0) where
-    then : run_refusal_of s count L l ≡ lowest (gives unsound (bad s L l) ∷ [])
+  module _ (none : ◌≡◌ {A = Told} (Ok tt) (answered s (lowest (list_checks s count)))) where
+    pass : Passed (list_checks s count)
+    pass = passed 0 (list_checks s count) (omega arith) (none_told s (lowest (list_checks s count)) none)
+
+    -- as many records as lengths, 16 at most
+    pub few_records : not (eqb (length s.lens) 0 || ltb most_threads (length s.lens)) ≡ true → count ≤ 16
+    few_records few =
+        let (o, vc) = (and-eq-true_iff _ _).0 (not-false _ pass.1.0) in
+        let (v, c) = (and-eq-true_iff _ _).0 vc in
+        let same : count ≡ length s.lens = eqb-true _ _ c in
+        omega (arith, same, ltb-false most_threads (length s.lens) (neither (eqb (length s.lens) 0) (ltb most_threads (length s.lens)) few))
+
+    pub none_refuse : bad s L l ≡ false → ◌≡◌ {A = Told} (Ok tt) (answered s (run_refusal_of s count L l))
     unfolding run_refusal_of
-    then = later (list_checks s count) _ (passed 0 (list_checks s count) (omega arith) (sym number_of ∙ none))
+    none_refuse = fine s (list_checks s count) pass unsound (bad s L l)
 
-    pub none_refuse : bad s L l ≡ false → why ≡ beside s (run_refusal_of s count L l)
-    unfolding lowest
-    none_refuse fine = rw (then, fine) (of_lists ∙ ap (beside s) (sym number_of ∙ none))
-
-    pub state_refuses : bad s L l ≡ true → ◌≡◌ {A = Refusal} (record { number = unsound; thread = 0; place = 0 }) (beside s (run_refusal_of s count L l))
-    unfolding lowest beside
-    state_refuses e = rw (then, e)
+    pub state_refuses : bad s L l ≡ true → ◌≡◌ {A = Told} (Err (alone unsound)) (answered s (run_refusal_of s count L l))
+    unfolding run_refusal_of beside
+    state_refuses e = applies s (list_checks s count) pass unsound (bad s L l) e (λ z. absurd (omega arith)) refl
 
 -- ---- the two tests of the state
 module _ (s : Lent) (L : Lock) (l : List Rec) where
@@ -146,11 +139,13 @@ module _ (s : Lent) (count : ℕ) (L : Lock) (recs : List Rec) (schedule : List 
   unfolding run_of
   made n none many = rw (none, (none_refused s count L recs none).0, many) refl
 
-  pub left : (why : Refusal) → why ≡ beside s (run_refusal_of s count L (take count recs)) → (why.number ≡ 0 → ⊥)
-      → (◌≡◌ {A = RunReturn} (record { refusal = why; n = 0; done = 0; lock = L; recs = recs }) (ran_of count recs (run_of s count L recs schedule budget trace)))
+  pub left : (why : Refusal) → ◌≡◌ {A = Told} (Err why) (answered s (run_refusal_of s count L (take count recs)))
+      → (◌≡◌ {A = RunReturn} (record { ran = record { refusal = Some why; n = 0; done = 0; lock = L }; recs = recs })
+      (ran_of count recs (run_of s count L recs schedule budget trace)))
       × (trace ≡ (run_of s count L recs schedule budget trace).trace)
   unfolding run_of
-  left why is some =
+  left why told =
       let k = run_refusal_of s count L (take count recs) in
-      let not_none : eqb k 0 ≡ false = ne_eqb k 0 (λ z. some (rw is (number_beside s k ∙ z))) in
-      (rw (not_none, is, take-append-drop count recs) refl, rw not_none refl)
+      let (some, is) = some_told s k why told in
+      let not_none : eqb k 0 ≡ false = ne_eqb k 0 some in
+      (rw (not_none, is_some s k some, is, take-append-drop count recs) refl, rw not_none refl)

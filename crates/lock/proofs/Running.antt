@@ -19,7 +19,7 @@ use Rattle.machine.specs.Run.{Ran, run, accepted, words_of}
 use Rattle.machine.specs.declared.Lock.{Lock}
 use Rattle.machine.specs.declared.Rec.{Rec}
 use Rattle.machine.specs.declared.Row.{Row}
-use Rattle.machine.specs.declared.Refusal.{Refusal}
+use Rattle.std.specs.Prelude.{None}
 use Rattle.machine.proofs.Sums.{sum_le, sum_const, sum_part}
 use Rattle.machine.proofs.Keep.{bit_le}
 use Rattle.machine.proofs.Accesses.{others_stay}
@@ -182,10 +182,11 @@ module _ (s : Lent) (L₀ : Lock) (recs : List Rec) (schedule : List ℕ) (n : �
       enters_not i row h made = not_stepped (scripts_of s) (length s.lens) L rs i b size g.counted row h made
 
     -- all entries are done
-    pub all_done : (none : Refusal) → none ≡ beside s 0 → n ≤ k
-        → (◌≡◌ {A = Returned} (record { refusal = none; n = n; done = d; lock = L; recs = rs }) (ran_of (length s.lens) recs (ready_of s L₀ recs schedule n tr₀)))
+    pub all_done : n ≤ k
+        → (◌≡◌ {A = Returned} (record { ran = record { refusal = None; n = n; done = d; lock = L }; recs = rs }) (ran_of (length s.lens) recs (ready_of s L₀ recs schedule n tr₀)))
         × (tr ≡ (ready_of s L₀ recs schedule n tr₀).trace)
-    all_done none is over =
+    unfolding beside
+    all_done over =
         let end : k ≡ n = omega (arith, g.within) in
         let whole : rs ≡ (after s L₀ recs schedule k).recs ++ drop (length s.lens) recs = sym (take-append-drop (length s.lens) rs) ∙ rw (g.front, g.back) refl in
-        (rw (← end, is, g.done, g.lock, whole) refl, rw (← end) g.written)
+        (rw (← end, g.done, g.lock, whole) refl, rw (← end) g.written)

@@ -1,7 +1,7 @@
 -- Drain as code: where a thread stops, a drain under way, and what drain leaves, with records by value.
 use Rattle.std.specs.Prelude.{ℕ, ◌+◌, ◌^◌, ◌<◌, ◌≡◌, Bool, ◌||◌, List, leb, length, take}
 use Rattle.machine.specs.Words.{is}
-use Rattle.machine.specs.Lists.{Lent}
+use Rattle.machine.specs.Lists.{Lent, some_refusal}
 use Rattle.machine.specs.Step.{Scripts, busy}
 use Rattle.machine.specs.Drain.{Went, DrainLeft}
 use Rattle.machine.specs.declared.Lock.{Lock}
@@ -9,6 +9,7 @@ use Rattle.machine.specs.declared.Rec.{Rec}
 use Rattle.machine.specs.declared.Place.TheVariants.{Idle, WriteWait}
 use Rattle.lock.specs.ByValue.{put_back}
 use Rattle.lock.specs.Run.{Ready}
+use Rattle.lock.specs.declared.drain.Drained.{Drained}
 use Rattle.lock.specs.declared.drain.DrainReturn.{DrainReturn}
 use Rattle.lock.specs.declared.drain.Going.{Going}
 use Rattle.lock.specs.declared.drain.Stop.{Stop}
@@ -40,6 +41,10 @@ abbrev pub going_of : Lent → Going → Went → Going
 going_of s g w =
     record { lock = w.lock; recs = put_back (length s.lens) g.recs w.recs; busy = busy w.recs; used = g.used + length w.made }
 
+-- what is answered beside the records
+abbrev pub drain_told : DrainLeft → Drained
+drain_told left = record { refusal = some_refusal left.refusal; n = left.n; lock = left.lock }
+
 -- the array is recs
 abbrev pub drained_of : ℕ → List Rec → DrainLeft → DrainReturn
-drained_of count recs left = record { refusal = left.refusal; n = left.n; lock = left.lock; recs = put_back count recs left.recs }
+drained_of count recs left = record { drained = drain_told left; recs = put_back count recs left.recs }

@@ -1,17 +1,22 @@
 -- What the code of a run returns, and what the entries of a run that is not refused ask.
 use Rattle.std.specs.Prelude.{ℕ, ◌*◌, ◌<◌, ◌≤◌, ◌≡◌, List, ◌++◌, length, take, drop}
 use Rattle.machine.specs.Names.{most_threads, longest_script, row_words}
-use Rattle.machine.specs.Lists.{Lent, total, scripts_of, beside}
+use Rattle.machine.specs.Lists.{Lent, total, scripts_of, beside, some_refusal}
 use Rattle.machine.specs.Sound.{Sound}
 use Rattle.machine.specs.Run.{run, RunLeft, made_run}
 use Rattle.machine.specs.declared.Lock.{Lock}
 use Rattle.machine.specs.declared.Rec.{Rec}
 use Rattle.lock.specs.ByValue.{put_back, run_of}
+use Rattle.lock.specs.declared.run.Ran.{Ran}
 use Rattle.lock.specs.declared.run.RunReturn.{RunReturn}
+
+-- what is answered beside the lists
+abbrev pub run_told : RunLeft → Ran
+run_told left = record { refusal = some_refusal left.refusal; n = left.n; done = left.done; lock = left.lock }
 
 -- the array is recs
 abbrev pub ran_of : ℕ → List Rec → RunLeft → RunReturn
-ran_of count recs left = record { refusal = left.refusal; n = left.n; done = left.done; lock = left.lock; recs = put_back count recs left.recs }
+ran_of count recs left = record { ran = run_told left; recs = put_back count recs left.recs }
 
 -- n entries of the schedule, from a state that is not refused; a record for each length
 abbrev pub ready_of : Lent → Lock → List Rec → List ℕ → ℕ → List ℕ → RunLeft

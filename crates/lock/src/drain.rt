@@ -1,6 +1,6 @@
 // Drain: the refusals 5, 6, 7, 10 and 17, then the entries of the drain order.
 ghost use Rattle.std.specs.Prelude.{ℕ, ◌+◌, ◌*◌, ◌<◌, ◌≤◌, ◌^◌, ◌≡◌, length, take};
-ghost use Rattle.machine.specs.Lists.{lent, scripts_of, beside};
+ghost use Rattle.machine.specs.Lists.{lent, scripts_of, answered};
 ghost use Rattle.machine.specs.Tidy.{price, cost, bound};
 ghost use Rattle.machine.specs.Drain.{until, sweep, drain};
 ghost use Rattle.lock_tidy.specs.Rests.{words_at};
@@ -9,15 +9,21 @@ ghost use Rattle.lock.specs.Run.{Ready};
 ghost use Rattle.lock.specs.Drain.{stops_at, stop_of, UnderWay, start_of, going_of, drained_of};
 
 use super::{entered, refused, run};
-use lock_words::names::{ACQUIRE_READ, ACQUIRE_WRITE, NONE, RELEASE_WRITE, UNTIDY};
+use lock_words::names::{ACQUIRE_READ, ACQUIRE_WRITE, RELEASE_WRITE, Refused};
 use machine::{Lists, Lock, Place, Rec, Refusal};
 
-// What a drain returns: the refusal, whose number is 0 for none; how many entries it made; the lock and the records as they are left.
+// What a drain tells: the refusal, if there is one; how many entries it made; the lock as it is left.
 #[derive(Clone, Copy)]
-pub struct DrainReturn {
-    pub refusal: Refusal,
+pub struct Drained {
+    pub refusal: Option<Refusal>,
     pub n: u64,
     pub lock: Lock,
+}
+
+// The same with the records as they are left.
+#[derive(Clone, Copy)]
+pub struct DrainReturn {
+    pub drained: Drained,
     pub recs: [Rec; 16],
 }
 
@@ -42,51 +48,43 @@ struct Going {
 pub fn drain(lists: Lists, lock: Lock, recs: [Rec; 16], count: u64) -> DrainReturn
     ensures { result ≡ drained_of count recs (drain_of (lent lists.entry) count lock recs) }
 {
-    let why = refusal(lists, lock, recs, count);
-    if why.number != NONE {
-        return DrainReturn {
-            refusal: why,
+    if let Err(why) = refusal(lists, lock, recs, count) {
+        let drained = Drained {
+            refusal: Some(why),
             n: 0,
             lock,
-            recs,
         };
+        return DrainReturn { drained, recs };
     }
     let end = drain_ready(lists, lock, recs);
-    let recs = end.recs;
-    DrainReturn {
-        refusal: why,
+    let drained = Drained {
+        refusal: None,
         n: end.used,
         lock: end.lock,
-        recs,
-    }
+    };
+    let recs = end.recs;
+    DrainReturn { drained, recs }
 }
 
 // How many entries a drain takes at most: the plain cost and three a thread, and 0 where drain is refused.
 pub fn bound_of(lists: Lists, lock: Lock, recs: [Rec; 16], count: u64) -> u64
     ensures { result ≡ bound_of (lent lists.entry) count lock recs }
 {
-    let why = refusal(lists, lock, recs, count);
-    if why.number != NONE {
-        return 0;
+    match refusal(lists, lock, recs, count) {
+        Ok(()) => bound(lists, recs),
+        Err(_) => 0,
     }
-    bound(lists, recs)
 }
 
 // 5, 6, 7 and 10 are run's too, 17 is drain's own.
-fn refusal(lists: Lists, lock: Lock, recs: [Rec; 16], count: u64) -> Refusal
-    ensures { let s = lent lists.entry in result ≡ beside s (drain_refusal_of s count lock (take count recs)) }
+fn refusal(lists: Lists, lock: Lock, recs: [Rec; 16], count: u64) -> Result<(), Refusal>
+    ensures { let s = lent lists.entry in result ≡ answered s (drain_refusal_of s count lock (take count recs)) }
 {
-    let why = refused::refused(lists, lock, recs, count);
-    if why.number != NONE {
-        return why;
-    }
-    if lock_tidy::is_tidy(lists, lock, recs, count) {
-        return why;
-    }
-    Refusal {
-        number: UNTIDY,
-        thread: 0,
-        place: 0,
+    refused::refused(lists, lock, recs, count)?;
+    if lock_tidy::is_tidy(lists, lock, &recs[..count as usize]) {
+        Ok(())
+    } else {
+        Err(Refusal::from(Refused::Untidy))
     }
 }
 

@@ -6,7 +6,7 @@ ghost use Rattle.lock.specs.Room.{Room};
 ghost use Rattle.lock.specs.Entered.{left_alone, changed, entered_of};
 
 use super::entry;
-use lock_words::names::{NO_ACCESS, NONE, SCRIPT_FINISHED};
+use lock_words::names::{NO_ACCESS, NONE, Refused};
 use machine::{Did, Lists, Lock, Place, Rec, Row};
 
 #[derive(Clone, Copy)]
@@ -45,7 +45,7 @@ pub(crate) fn enter_at(lists: Lists, lock: Lock, rec: Rec, i: u64, busy: u64, st
 {
     let len = lists.lens[i as usize];
     if len <= rec.at {
-        return left_alone(lock, rec, i, busy, SCRIPT_FINISHED);
+        return left_alone(lock, rec, i, busy, u64::from(Refused::ScriptFinished));
     }
     let at = (start + rec.at) as usize;
     enter(lock, rec, i, len, busy, lists.ops[at], lists.vals[at])

@@ -1,14 +1,15 @@
 // One entry of a schedule, for a thread that there is: the refusals 12 to 16, and the turn.
 ghost use Rattle.std.specs.Prelude.{◌<◌, ◌≡◌, ◌||◌, eqb};
 ghost use Rattle.machine.specs.Step.{fits};
+ghost use Rattle.lock_words.specs.Refused.{number_told};
 ghost use Rattle.lock.specs.Room.{Room};
 ghost use Rattle.lock.specs.Turn.{gone, others_are_busy, forbidden, turn_refusal, turn_of};
 
 use super::table;
 use cell::pred;
 use lock_words::names::{
-    ACQUIRE_READ, ACQUIRE_WRITE, BORROWS, DOES_NOT_FIT, DROP_HANDLE, INTO_INNER, LOCK_GONE, NONE,
-    NOT_PERMITTED, OTHERS_BUSY, RELEASE_READ, RELEASE_WRITE, SCRIPT_FINISHED,
+    ACQUIRE_READ, ACQUIRE_WRITE, BORROWS, DROP_HANDLE, INTO_INNER, RELEASE_READ, RELEASE_WRITE,
+    Refused,
 };
 use machine::{Did, Lock, Place, Rec};
 
@@ -26,35 +27,39 @@ pub(crate) fn turn(
     requires { rec.at < len → Room lock rec }
     ensures { result ≡ turn_of lock rec i len others op v }
 {
-    let k = refusal(lock, rec, i, len, others, op, v);
-    if k == NONE {
-        Ok(table::act(i, lock, rec, op, v))
-    } else {
-        Err(k)
-    }
+    refusal(lock, rec, i, len, others, op, v)?;
+    Ok(table::act(i, lock, rec, op, v))
 }
 
-// The number of the first refusal that applies.
+// The first refusal that applies.
 #[tactic(auto, unfolding(crate::specs::Turn::turn_refusal, machine::specs::Refusals::lowest))]
-fn refusal(lock: Lock, rec: Rec, i: u64, len: u64, others: u64, op: u64, v: u64) -> u64
-    ensures { result ≡ turn_refusal lock rec i len others op v }
+fn refusal(
+    lock: Lock,
+    rec: Rec,
+    i: u64,
+    len: u64,
+    others: u64,
+    op: u64,
+    v: u64,
+) -> Result<(), Refused>
+    ensures { number_told result ≡ turn_refusal lock rec i len others op v }
 {
     if len <= rec.at {
-        return SCRIPT_FINISHED;
+        return Err(Refused::ScriptFinished);
     }
     if gone(lock, i) {
-        return LOCK_GONE;
+        return Err(Refused::LockGone);
     }
     if !fits(rec.place, op) {
-        return DOES_NOT_FIT;
+        return Err(Refused::DoesNotFit);
     }
     if others_are_busy(lock, i, others, op) {
-        return OTHERS_BUSY;
+        return Err(Refused::OthersBusy);
     }
     if forbidden(lock, rec, op, v) {
-        return NOT_PERMITTED;
+        return Err(Refused::NotPermitted);
     }
-    NONE
+    Ok(())
 }
 
 fn gone(lock: Lock, i: u64) -> bool

@@ -7,17 +7,22 @@ ghost use Rattle.lock.specs.ByValue.{run_of};
 ghost use Rattle.lock.specs.Run.{ran_of, ready_of, Ready, rest_of, rest_trace};
 
 use super::{entered, refused, trace};
-use lock_words::names::{NO_ACCESS, NO_THREAD, NONE};
+use lock_words::names::{NO_ACCESS, NONE, Refused};
 use machine::{Lists, Lock, Place, ROW_WORDS, Rec, Refusal};
 
-// What a run returns: the refusal, whose number is 0 for none; n; the number of rows with answer 0; the lock and the records as they
-// are left.
+// What a run tells: the refusal, if there is one; n; the number of rows with answer 0; the lock as it is left.
 #[derive(Clone, Copy)]
-pub struct RunReturn {
-    pub refusal: Refusal,
+pub struct Ran {
+    pub refusal: Option<Refusal>,
     pub n: u64,
     pub done: u64,
     pub lock: Lock,
+}
+
+// The same with the records as they are left.
+#[derive(Clone, Copy)]
+pub struct RunReturn {
+    pub ran: Ran,
     pub recs: [Rec; 16],
 }
 
@@ -34,15 +39,14 @@ pub fn run(
     ensures value { result ≡ ran_of count recs (run_of (lent lists.entry) count lock recs schedule.now budget trace.old) }
     ensures trace_after { trace.new ≡ (run_of (lent lists.entry) count lock recs schedule.now budget trace.old).trace }
 {
-    let why = refused::refused(lists, lock, recs, count);
-    if why.number != NONE {
-        return RunReturn {
-            refusal: why,
+    if let Err(why) = refused::refused(lists, lock, recs, count) {
+        let ran = Ran {
+            refusal: Some(why),
             n: 0,
             done: 0,
             lock,
-            recs,
         };
+        return RunReturn { ran, recs };
     }
     let room = (trace.len() / ROW_WORDS) as u64;
     let n = budget.min((schedule.len() as u64).min(room));
@@ -110,7 +114,7 @@ fn run_ready(
     let mut done = 0;
     for k in 0..n {
         let t = schedule[k as usize];
-        let mut row = entered::row_of(l, t, NO_ACCESS, NO_THREAD, 0);
+        let mut row = entered::row_of(l, t, NO_ACCESS, u64::from(Refused::NoThread), 0);
         if t < count {
             let i = t as usize;
             let e = entered::enter_at(lists, l, rs[i], t, busy, starts[i]);
@@ -122,13 +126,13 @@ fn run_ready(
         trace::put_row(trace, ROW_WORDS * k as usize, row);
         done += u64::from(row.answer == NONE);
     }
-    RunReturn {
-        refusal: none(),
+    let ran = Ran {
+        refusal: None,
         n,
         done,
         lock: l,
-        recs: rs,
-    }
+    };
+    RunReturn { ran, recs: rs }
 }
 
 // Where each thread's script starts, cut at `most`, past which there is no word.
@@ -155,14 +159,4 @@ pub(crate) fn busy_among(recs: [Rec; 16], count: u64) -> u64
         .iter()
         .filter(|rec| rec.place != Place::Idle)
         .count() as u64
-}
-
-fn none() -> Refusal
-    ensures { result ≡ record { number = 0; thread = 0; place = 0 } }
-{
-    Refusal {
-        number: NONE,
-        thread: 0,
-        place: 0,
-    }
 }

@@ -1,17 +1,16 @@
 // Setup: the refusals 1 to 7, and the state that it leaves.
 ghost use Rattle.std.specs.Prelude.{◌≤◌, ◌≡◌, ◌||◌, eqb, ltb};
 ghost use Rattle.machine.specs.Refusals.{lowest};
-ghost use Rattle.machine.specs.Lists.{lent, beside};
+ghost use Rattle.machine.specs.Lists.{lent, answered};
 ghost use Rattle.machine.specs.Setup.{fresh, setup_refusal};
+ghost use Rattle.lock_words.specs.Refused.{number_told};
 ghost use Rattle.lock.specs.ByValue.{put_back};
 ghost use Rattle.lock.specs.Setup.{own_checks, begun_of};
 
 use atomic::Count;
 use cell::pred;
 use cell::pred::Pred;
-use lock_words::names::{
-    BAD_PREDICATE, FIRST_VALUE, MOST_THREADS, NONE, THREAD_COUNT, TOP_IS_ZERO,
-};
+use lock_words::names::{MOST_THREADS, Refused};
 use machine::{Lists, Lock, Place, Rec, Refusal};
 
 // What setup answers, and the records as it leaves them.
@@ -25,54 +24,44 @@ pub struct Begun {
 pub fn setup(pred: Pred, top: Count, first: u64, lists: Lists, recs: [Rec; 16], count: u64) -> Begun
     ensures { result ≡ begun_of pred top.0 first (lent lists.entry) count recs }
 {
-    let why = refused(pred, top, first, lists, count);
-    if why.number == NONE {
-        Begun {
+    match refused(pred, top, first, lists, count) {
+        Ok(()) => Begun {
             start: Ok(lock_words::unused(pred, top, first)),
             recs: begin(recs, count),
-        }
-    } else {
-        Begun {
+        },
+        Err(why) => Begun {
             start: Err(why),
             recs,
-        }
+        },
     }
 }
 
 // 1 to 4 are setup's own, 5 to 7 the lists'.
-fn refused(pred: Pred, top: Count, first: u64, lists: Lists, count: u64) -> Refusal
-    ensures { let s = lent lists.entry in result ≡ beside s (setup_refusal pred top.0 first s count) }
+fn refused(pred: Pred, top: Count, first: u64, lists: Lists, count: u64) -> Result<(), Refusal>
+    ensures { let s = lent lists.entry in result ≡ answered s (setup_refusal pred top.0 first s count) }
 {
-    let k = own_refusal(pred, top, first, lists.lens.len() as u64);
-    if k == NONE {
-        lock_scripts::refused(lists, count)
-    } else {
-        Refusal {
-            number: k,
-            thread: 0,
-            place: 0,
-        }
-    }
+    own_refusal(pred, top, first, lists.lens.len() as u64)?;
+    lock_scripts::refused(lists, count)
 }
 
-// The number of the first of 1 to 4 that applies.
+// The first of 1 to 4 that applies.
 #[tactic(auto, unfolding(machine::specs::Refusals::lowest))]
-fn own_refusal(pred: Pred, top: Count, first: u64, threads: u64) -> u64
-    ensures { result ≡ lowest (own_checks pred top.0 first threads) }
+fn own_refusal(pred: Pred, top: Count, first: u64, threads: u64) -> Result<(), Refused>
+    ensures { number_told result ≡ lowest (own_checks pred top.0 first threads) }
 {
     if threads == 0 || MOST_THREADS < threads {
-        return THREAD_COUNT;
+        return Err(Refused::ThreadCount);
     }
     if top.0 == 0 {
-        return TOP_IS_ZERO;
+        return Err(Refused::TopIsZero);
     }
     if !pred::is_good(pred) {
-        return BAD_PREDICATE;
+        return Err(Refused::BadPredicate);
     }
     if !pred::permits(pred, first) {
-        return FIRST_VALUE;
+        return Err(Refused::FirstValue);
     }
-    NONE
+    Ok(())
 }
 
 // The first n records of the array as setup makes them.

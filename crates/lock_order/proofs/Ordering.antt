@@ -9,7 +9,7 @@ use lib.ListN.{length, take, drop}
 use lib.Seq.{sets, sets-eq, length-take-le}
 use package.borrow.Author.Tests.{eqb-true, ne_eqb, lt-ltb, le-ltb}
 use Rattle.machine.specs.Refusals.{gives, lowest}
-use Rattle.machine.specs.Lists.{Lent, scripts_of, beside}
+use Rattle.machine.specs.Lists.{Lent, scripts_of, beside, some_refusal}
 use Rattle.machine.specs.Sound.{Sound}
 use Rattle.machine.specs.Tidy.{Tidy, bound}
 use Rattle.machine.specs.Drain.{drain, drain_refusal}
@@ -19,9 +19,11 @@ use Rattle.machine.specs.declared.Refusal.{Refusal}
 use Rattle.machine.proofs.Refusals.{passed}
 use Rattle.machine.proofs.Exact.{drain_admits}
 use Rattle.lock.specs.ByValue.{drain_checks_of, drain_refusal_of, drain_of, bound_of}
-use Rattle.lock.specs.Drain.{drained_of}
-use Rattle.lock.specs.declared.drain.DrainReturn.{DrainReturn}
-use Rattle.lock.proofs.Refusing.{earlier, later, number_beside, none_refused}
+use Rattle.std.specs.Prelude.{None, Some}
+use Rattle.lock.specs.Drain.{drain_told}
+use Rattle.lock.specs.declared.drain.Drained.{Drained}
+use Rattle.lock.proofs.Told.{earlier, later, is_none, is_some, none_some, some_some}
+use Rattle.lock.proofs.Refusing.{none_refused}
 use Rattle.lock.proofs.Draining.{none_of_run}
 use Rattle.lock_order.specs.Order.{no_room, order_refusal_of, order_made, order_refused, order_of, answer_of}
 use Rattle.lock_order.specs.Write.{within}
@@ -99,39 +101,36 @@ module _ (s : Lent) (count : ℕ) (L : Lock) (recs : List Rec) where
     made is = rw is refl
 
     -- drain has told d
-    module _ (d : DrainReturn) (is : d ≡ drained_of count recs (drain_of s count L recs)) where
-      refusal_is : d.refusal ≡ beside s k
-      refusal_is = ap (λ (x : DrainReturn). x.refusal) is ∙ told
+    module _ (d : Drained) (is : d ≡ drain_told (drain_of s count L recs)) where
+      refusal_is : d.refusal ≡ some_refusal (beside s k)
+      refusal_is = ap (λ (x : Drained). x.refusal) is ∙ ap some_refusal told
 
-      number_is : d.refusal.number ≡ k
-      number_is = ap (λ (r : Refusal). r.number) refusal_is ∙ number_beside s k
+      pub none_is : d.refusal ≡ None → k ≡ 0
+      none_is none = none_some s k (sym refusal_is ∙ none)
 
-      pub none_is : d.refusal.number ≡ 0 → k ≡ 0
-      none_is none = sym number_is ∙ none
+      pub n_is : d.refusal ≡ None → d.n ≡ length es
+      n_is none = ap (λ (x : Drained). x.n) is ∙ counted (none_is none)
 
-      pub n_is : d.refusal.number ≡ 0 → d.n ≡ length es
-      n_is none = ap (λ (x : DrainReturn). x.n) is ∙ counted (none_is none)
+      pub left_alone : (why : Refusal) → d.refusal ≡ Some why
+          → (◌≡◌ {A = Answer} (record { refusal = Some why; n = 0; bound = 0 }) (answer_of (order_of s count L recs out))) × (out ≡ (order_of s count L recs out).out)
+      left_alone why e =
+          let (some, same) = some_some s k why (sym refusal_is ∙ e) in
+          rw (refused_by k some (refused_first (length out) some), is_some s k some, same) (refl, refl)
 
-      pub left_alone : (d.refusal.number ≡ 0 → ⊥)
-          → (◌≡◌ {A = Answer} (record { refusal = d.refusal; n = 0; bound = 0 }) (answer_of (order_of s count L recs out))) × (out ≡ (order_of s count L recs out).out)
-      left_alone some =
-          let not_none : k ≡ 0 → ⊥ = λ z. some (number_is ∙ z) in
-          rw (refused_by k not_none (refused_first (length out) not_none), refusal_is) (refl, refl)
-
-      pub too_small : d.refusal.number ≡ 0 → length out < d.n
-          → (◌≡◌ {A = Answer} (record { refusal = record { number = 41; thread = 0; place = 0 }; n = 0; bound = 0 }) (answer_of (order_of s count L recs out)))
+      pub too_small : d.refusal ≡ None → length out < d.n
+          → (◌≡◌ {A = Answer} (record { refusal = Some (record { number = 41; thread = 0; place = 0 }); n = 0; bound = 0 }) (answer_of (order_of s count L recs out)))
           × (out ≡ (order_of s count L recs out).out)
       unfolding beside
       too_small none less =
           let less_es : length out < length es = omega (arith, n_is none) in
           rw (refused_by no_room (λ z. omega arith) (no_room_lem (length out) (none_is none) less_es)) (refl, refl)
 
-      pub written : (wide : length recs ≡ 16) (none : d.refusal.number ≡ 0) → d.n ≤ length out → (list : List ℕ)
+      pub written : (wide : length recs ≡ 16) (none : d.refusal ≡ None) → d.n ≤ length out → (list : List ℕ)
           → list ≡ sets out 0 (within d.n (scripts_of s) L l).made → (b : ℕ) → b ≡ bound_of s count L recs
-          → (◌≡◌ {A = Answer} (record { refusal = d.refusal; n = d.n; bound = b }) (answer_of (order_of s count L recs out))) × (list ≡ (order_of s count L recs out).out)
+          → (◌≡◌ {A = Answer} (record { refusal = None; n = d.n; bound = b }) (answer_of (order_of s count L recs out))) × (list ≡ (order_of s count L recs out).out)
       written wide none fits list e b of_bound =
           let fits_es : length es ≤ length out = omega (arith, n_is none) in
           let same = within_is wide (none_is none) d.n (n_is none) in
           let front : 0 + length es ≡ length es = omega arith in
           let stored : sets out 0 es ≡ es ++ drop (length es) out = sets-eq es out 0 (omega arith) ∙ ap (λ (m : ℕ). es ++ drop m out) front in
-          rw (made (room_enough (length out) (none_is none) fits_es), e, same, stored, n_is none, refusal_is, none_is none, of_bound, bounded (none_is none)) (refl, refl)
+          rw (made (room_enough (length out) (none_is none) fits_es), is_none s 0 refl, e, same, stored, n_is none, of_bound, bounded (none_is none)) (refl, refl)

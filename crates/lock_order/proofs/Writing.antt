@@ -88,7 +88,7 @@ module _ (s : Lent) (count : ℕ) (g : Going) (able : Able s count g) where
 
     -- a run of the one entry leaves what the step leaves
     pub ran_one : (row : List ℕ) → length row ≡ 6 → (r : RunReturn) → r ≡ ran_of count g.recs (run_of s count g.lock g.recs (i ∷ []) 1 row)
-        → ◌≡◌ {A = Going} (record { lock = r.lock; recs = r.recs; used = g.used + 1 }) next
+        → ◌≡◌ {A = Going} (record { lock = r.ran.lock; recs = r.recs; used = g.used + 1 }) next
     unfolding run_of run
     ran_one row six r is =
         let one : entries 1 (i ∷ []) row ≡ 1 = omega (arith, six) in

@@ -1,7 +1,7 @@
 // The entries of the drain order, written into a lent list; lock and records are not changed.
 #![tactic(auto)]
 
-ghost use Rattle.std.specs.Prelude.{◌+◌, ◌<◌, ◌≤◌, ◌^◌, ◌≡◌, length, take};
+ghost use Rattle.std.specs.Prelude.{◌+◌, ◌<◌, ◌≤◌, ◌^◌, ◌≡◌, Some, length, take};
 ghost use Rattle.std.proofs.lemmas.List.Edits.{sets};
 ghost use Rattle.machine.specs.Lists.{lent, scripts_of};
 ghost use Rattle.machine.specs.Drain.{until, sweep};
@@ -11,17 +11,16 @@ ghost use Rattle.lock_order.specs.Order.{order_of, answer_of};
 ghost use Rattle.lock_order.specs.Write.{Able, one_of, within, went_of};
 
 use lock::drain::{Stop, stops};
-use lock_words::names::NONE;
 use machine::{Lists, Lock, ROW_WORDS, Rec, Refusal};
 
 // The refusal where the entries have no room.
 pub const NO_ROOM: u64 = 41;
 
-// The refusal, whose number is 0 for none; how many entries were written; how many they are at most by the rules: the plain cost of the
-// state given and three a thread.
+// The refusal, if there is one; how many entries were written; how many they are at most by the rules: the plain cost of the state given
+// and three a thread.
 #[derive(Clone, Copy)]
 pub struct Answer {
-    pub refusal: Refusal,
+    pub refusal: Option<Refusal>,
     pub n: u64,
     pub bound: u64,
 }
@@ -40,31 +39,32 @@ pub fn drain_order(lists: Lists, lock: Lock, recs: [Rec; 16], count: u64, out: &
     ensures value { result ≡ answer_of (order_of (lent lists.entry) count lock recs out.old) }
     ensures out_after { out.new ≡ (order_of (lent lists.entry) count lock recs out.old).out }
 {
-    let end = lock::drain::drain(lists, lock, recs, count);
-    let why = end.refusal;
-    if why.number != NONE {
-        return Answer {
-            refusal: why,
-            n: 0,
-            bound: 0,
-        };
+    let end = lock::drain::drain(lists, lock, recs, count).drained;
+    if let Some(why) = end.refusal {
+        return refused(why);
     }
     if (out.len() as u64) < end.n {
-        return Answer {
-            refusal: Refusal {
-                number: NO_ROOM,
-                thread: 0,
-                place: 0,
-            },
-            n: 0,
-            bound: 0,
-        };
+        return refused(Refusal {
+            number: NO_ROOM,
+            thread: 0,
+            place: 0,
+        });
     }
     write(lists, lock, recs, count, end.n, out);
     Answer {
-        refusal: why,
+        refusal: None,
         n: end.n,
         bound: lock::drain::bound_of(lists, lock, recs, count),
+    }
+}
+
+fn refused(why: Refusal) -> Answer
+    ensures { result ≡ record { refusal = Some why; n = 0; bound = 0 } }
+{
+    Answer {
+        refusal: Some(why),
+        n: 0,
+        bound: 0,
     }
 }
 
@@ -135,10 +135,10 @@ fn stepped(from: Going, i: u64, lists: Lists, count: u64) -> Going
 {
     let Going { lock, recs, used } = from;
     let mut row = [0; ROW_WORDS];
-    let ran = lock::run::run(lists, lock, recs, count, &[i], 1, &mut row);
-    let recs = ran.recs;
+    let left = lock::run::run(lists, lock, recs, count, &[i], 1, &mut row);
+    let recs = left.recs;
     Going {
-        lock: ran.lock,
+        lock: left.ran.lock,
         recs,
         used: used + 1,
     }

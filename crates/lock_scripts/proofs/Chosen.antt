@@ -3,14 +3,16 @@ use Prim.Native.Nat.{ℕ, ◌<◌, ◌≤◌}
 use mathlib.Core.Path.{◌≡◌, refl, sym, ◌∙◌}
 use mathlib.Core.Bool.{Bool, true, false, ◌&&◌, and-true, and-false, and_self, and-eq-true_iff}
 use mathlib.Core.List.{[], ◌∷◌}
-use lib.Dec.{eqb}
+use lib.Dec.{eqb, ltb}
 use lib.ListN.{length, get_or}
 use package.borrow.Author.Tests.{lt-ltb, le-ltb, eqb-true, eq-eqb, ne_eqb}
-use Rattle.machine.specs.Names.{script_too_long, wrong_lengths, wrong_code}
+use Rattle.machine.specs.Names.{longest_script, script_too_long, wrong_lengths, wrong_code}
 use Rattle.machine.specs.Refusals.{lowest}
-use Rattle.machine.specs.Lists.{Lent, total, start, scripts_of, long_thread, wrong_place, wrong_thread, list_checks, beside}
+use Rattle.machine.specs.Lists.{Lent, total, start, scripts_of, wrong_place, wrong_thread, list_checks, beside, answered}
 use Rattle.machine.specs.declared.Refusal.{Refusal}
+use Rattle.std.specs.Prelude.{Option, None, Some, Err, Ok, position}
 use Rattle.lock_scripts.specs.Checks.{fit, code_check, place_from}
+use Rattle.lock_scripts.proofs.Long.{long_there, none_long}
 
 module _ (s : Lent) (records : ℕ) where
   -- operations and values of unequal number are not both of the number that the lengths say
@@ -34,27 +36,31 @@ module _ (s : Lent) (records : ℕ) where
 abbrev refusal : ℕ → ℕ → ℕ → Refusal
 refusal number thread place = record { number = number; thread = thread; place = place }
 
-module _ (s : Lent) (records t : ℕ) (first : t ≡ long_thread s.lens) where
-  pub for_too_long : t < length s.lens → beside s (lowest (list_checks s records)) ≡ refusal script_too_long t 0
+-- where the first long length stands is the first long thread
+abbrev pub first_long : Lent → Option ℕ
+first_long s = position (λ n. ltb longest_script n) s.lens
+
+module _ (s : Lent) (records : ℕ) where
+  pub for_too_long : (t : ℕ) → first_long s ≡ Some t → Err (refusal script_too_long t 0) ≡ answered s (lowest (list_checks s records))
   unfolding lowest beside
-  for_too_long h = simp (← first, lt-ltb _ _ h)
+  for_too_long t e = let f = long_there s.lens t e in simp (f.0, lt-ltb _ _ f.1)
 
-  module _ (short : length s.lens ≤ t) where
-    pub unfit : fit s records ≡ false → beside s (lowest (list_checks s records)) ≡ refusal wrong_lengths 0 0
+  module _ (short : first_long s ≡ None) where
+    pub unfit : fit s records ≡ false → Err (refusal wrong_lengths 0 0) ≡ answered s (lowest (list_checks s records))
     unfolding lowest beside
-    unfit e = simp (← first, le-ltb _ _ short, e)
+    unfit e = simp (le-ltb _ _ (none_long s.lens short), e)
 
-    pub fitting : fit s records ≡ true → beside s (lowest (list_checks s records)) ≡ beside s (lowest (code_check s ∷ []))
+    pub fitting : fit s records ≡ true → answered s (lowest (list_checks s records)) ≡ answered s (lowest (code_check s ∷ []))
     unfolding lowest
-    fitting e = simp (← first, le-ltb _ _ short, e)
+    fitting e = simp (le-ltb _ _ (none_long s.lens short), e)
 
 module _ (s : Lent) (t : ℕ) (first : wrong_thread (scripts_of s) (length s.lens) ≡ t) where
-  pub wrong_found : t < length s.lens → beside s (lowest (code_check s ∷ [])) ≡ refusal wrong_code t (wrong_place (scripts_of s) t)
+  pub wrong_found : t < length s.lens → answered s (lowest (code_check s ∷ [])) ≡ Err (refusal wrong_code t (wrong_place (scripts_of s) t))
   unfolding lowest beside
   wrong_found h = simp (first, lt-ltb _ _ h)
 
-  pub none_wrong : length s.lens ≤ t → beside s (lowest (code_check s ∷ [])) ≡ refusal 0 0 0
-  unfolding lowest beside
+  pub none_wrong : length s.lens ≤ t → answered s (lowest (code_check s ∷ [])) ≡ Ok tt
+  unfolding lowest
   none_wrong h = simp (first, le-ltb _ _ h)
 
 -- the first wrong place of a script is looked for from where the script starts

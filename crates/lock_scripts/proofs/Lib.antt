@@ -1,3 +1,4 @@
 pub mod Finds
 pub mod Starts
+pub mod Long
 pub mod Chosen

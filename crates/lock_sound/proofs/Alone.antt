@@ -1,6 +1,6 @@
 -- The test of the mover: that the other records are Idle is told by how many records are not.
 use Prim.Native.Nat.{ℕ, ◌<◌, ◌≤◌}
-use mathlib.Core.Path.{◌≡◌, refl}
+use mathlib.Core.Path.{◌≡◌, refl, ap, ◌∙◌}
 use mathlib.Core.Bool.{Bool, true, false, ◌&&◌}
 use mathlib.Core.List.{List}
 use native.Mathlib.Omega.{arith}
@@ -11,11 +11,12 @@ use package.borrow.Author.Tests.{lt-ltb, le-ltb, ltb-true}
 use Rattle.machine.specs.Lists.{lists, scripts_of}
 use Rattle.machine.specs.Words.{unbegun}
 use Rattle.machine.specs.Step.{Scripts, busy_of, busy, others, here}
-use Rattle.machine.specs.Sound.{test_mover}
+use Rattle.machine.specs.Sound.{Tally, tally, test_mover}
 use Rattle.machine.specs.declared.Rec.{Rec}
 use Rattle.std.specs.Prelude.{None, Option, Some}
 use Rattle.machine.proofs.Sums.{sum_set}
-use Rattle.lock_sound.specs.Counts.{unvalued}
+use Rattle.lock_sound.specs.Counts.{unvalued, as_tally}
+use Rattle.lock_sound.specs.declared.sound.Counted.{Counted}
 use Rattle.lock_sound.specs.Records.{alone, mover_at}
 use Rattle.lock_words.proofs.Tests.{same_test}
 
@@ -49,3 +50,8 @@ there_or_not l t {a} {b} f = go (ltb t (length l)) refl
 pub mover_same : (lens ops vals : List ℕ) (l : List Rec) (m : Option ℕ) → mover_at (unvalued lens ops) l (busy l) m ≡ test_mover (scripts_of (lists lens ops vals)) l m
 mover_same lens ops vals l None = refl
 mover_same lens ops vals l (Some t) = there_or_not l t (λ h. rw (others_none l t h))
+
+-- and with a count that is it
+pub mover_by : (lens ops vals : List ℕ) (l : List Rec) (m : Option ℕ) (n : Counted) → as_tally n ≡ tally (unvalued lens ops) l
+    → mover_at (unvalued lens ops) l n.busy m ≡ test_mover (scripts_of (lists lens ops vals)) l m
+mover_by lens ops vals l m n e = ap (λ (N : Tally). mover_at (unvalued lens ops) l N.busy m) e ∙ mover_same lens ops vals l m

@@ -1,26 +1,24 @@
--- The loop that gathers the counts: each is a sum over the records, and of 16 records at most no count is above 16.
+-- The loop that gathers the counts: each is a sum over the records, and no sum of counts is above the number of records.
 use Prim.Native.Nat.{ℕ, ◌+◌, ◌<◌, ◌≤◌}
-use mathlib.Core.Path.{◌≡◌, refl}
+use mathlib.Core.Path.{◌≡◌}
 use mathlib.Core.Bool.{Bool, true, false}
 use mathlib.Core.List.{List}
 use native.Mathlib.Omega.{arith}
 use lib.Dec.{eqb}
-use lib.ListN.{length, take, get_or}
+use lib.ListN.{length, get_or}
 use Rattle.machine.specs.Lists.{start}
 use Rattle.machine.specs.Names.{into_inner}
-use Rattle.machine.specs.Words.{bit, is, is_at}
+use Rattle.machine.specs.Words.{bit, is_at}
 use Rattle.machine.specs.Step.{busy_of, here}
 use Rattle.machine.specs.Sound.{inside_of, tally}
 use Rattle.machine.specs.declared.Rec.{Rec}
 use Rattle.machine.specs.declared.Place.{Place}
-use Rattle.machine.specs.declared.Place.TheVariants.{ReadCheck, ReadBack, Reading, WriteWait, WriteTake, Writing, WritePut}
-use Rattle.machine.proofs.Sums.{sum_le, sum_const}
+use Rattle.machine.specs.declared.Place.TheVariants.{Idle, ReadTry, ReadCheck, ReadBack, Reading, WriteWait, WriteTake, Writing, WritePut}
 use Rattle.lock_sound.specs.declared.sound.Counted.{Counted}
-use Rattle.lock_sound.specs.Counts.{Few, as_tally, unvalued, weighed}
-use Rattle.lock_sound.proofs.Clauses.{takes, took, took_there, took_elsewhere}
-use Rattle.lock_words.proofs.Loops.{Gathered, sum_on, sum_over}
+use Rattle.lock_sound.specs.Counts.{Among, as_tally, unvalued, weighed}
+use Rattle.lock_words.proofs.Slices.{Summed, next_summed, all_summed}
 
--- ---- what a record weighs, 1 at most
+-- ---- what a record weighs
 abbrev at : Place → ℕ → Rec → ℕ
 at p k r = is_at p r
 
@@ -30,37 +28,43 @@ outside k r = busy_of r
 abbrev within : List ℕ → List ℕ → ℕ → Rec → ℕ
 within lens ops k r = inside_of ((unvalued lens ops).op k) r
 
+pub byte_light : (b : Bool) → mir.Val.bool_byte b ≤ 1
+byte_light true = omega arith
+byte_light false = omega arith
+
 bit_light : (b : Bool) → bit b ≤ 1
 bit_light true = omega arith
 bit_light false = omega arith
 
-took_light : (p : Place) (b : Bool) → took p (bit b) ≤ 1
-took_light p b = go (takes p) refl
+-- with one record more: it is counted at one place at most, and there only where it is not Idle
+pub one_more : (k : ℕ) (n : Counted) (r : Rec) (o : ℕ) → Among k n → Among (k + 1) (weighed n r o)
+one_more k n r o a = go r.place
   where
-    go : (t : Bool) → takes p ≡ t → took p (bit b) ≤ 1
-    go true e = rw (took_there p (bit b) e) (bit_light b)
-    go false e = rw (took_elsewhere p (bit b) e) (omega arith)
-
-light : (f : ℕ → Rec → ℕ) (count : ℕ) (recs : List Rec) (k x : ℕ) → ((j : ℕ) (r : Rec) → f j r ≤ 1) → length (take count recs) ≤ 16
-    → Gathered f count recs k x → x ≤ 16
-light f count recs k x one h g =
-    let l : List Rec = take count recs in
-    omega (arith, g, sum_le f (λ j r. 1) one 0 l, sum_const 1 0 l)
+    go : (p : Place) → Among (k + 1) (weighed n (record { at = r.at; place = p; seen = r.seen; taken = r.taken }) o)
+    go Idle = let light = bit_light (eqb o into_inner) in (omega arith, omega arith, omega arith)
+    go ReadTry = let light = bit_light (eqb o into_inner) in (omega arith, omega arith, omega arith)
+    go ReadCheck = let light = bit_light (eqb o into_inner) in (omega arith, omega arith, omega arith)
+    go ReadBack = let light = bit_light (eqb o into_inner) in (omega arith, omega arith, omega arith)
+    go Reading = let light = bit_light (eqb o into_inner) in (omega arith, omega arith, omega arith)
+    go WriteWait = let light = bit_light (eqb o into_inner) in (omega arith, omega arith, omega arith)
+    go WriteTake = let light = bit_light (eqb o into_inner) in (omega arith, omega arith, omega arith)
+    go Writing = let light = bit_light (eqb o into_inner) in (omega arith, omega arith, omega arith)
+    go WritePut = let light = bit_light (eqb o into_inner) in (omega arith, omega arith, omega arith)
 
 -- ---- what is gathered before record k
-pub record Sums (lens ops : List ℕ) (count : ℕ) (recs : List Rec) (k : ℕ) (x : Counted) : Type 0 where
-  pub check : Gathered (at ReadCheck) count recs k x.check
-  pub back : Gathered (at ReadBack) count recs k x.back
-  pub reading : Gathered (at Reading) count recs k x.reading
-  pub wait : Gathered (at WriteWait) count recs k x.wait
-  pub take : Gathered (at WriteTake) count recs k x.take
-  pub writing : Gathered (at Writing) count recs k x.writing
-  pub put : Gathered (at WritePut) count recs k x.put
-  pub busy : Gathered outside count recs k x.busy
-  pub inside : Gathered (within lens ops) count recs k x.inside
+pub record Sums (lens ops : List ℕ) (l : List Rec) (k : ℕ) (x : Counted) : Type 0 where
+  pub check : Summed (at ReadCheck) l k x.check
+  pub back : Summed (at ReadBack) l k x.back
+  pub reading : Summed (at Reading) l k x.reading
+  pub wait : Summed (at WriteWait) l k x.wait
+  pub take : Summed (at WriteTake) l k x.take
+  pub writing : Summed (at Writing) l k x.writing
+  pub put : Summed (at WritePut) l k x.put
+  pub busy : Summed outside l k x.busy
+  pub inside : Summed (within lens ops) l k x.inside
 
-module _ (lens ops : List ℕ) (count : ℕ) (recs : List Rec) where
-  pub sums_none : Sums lens ops count recs 0 (record { check = 0; back = 0; reading = 0; wait = 0; take = 0; writing = 0; put = 0; busy = 0; inside = 0 })
+module _ (lens ops : List ℕ) (l : List Rec) where
+  pub sums_none : Sums lens ops l 0 (record { check = 0; back = 0; reading = 0; wait = 0; take = 0; writing = 0; put = 0; busy = 0; inside = 0 })
   sums_none =
       record {
         check = omega arith;
@@ -74,46 +78,31 @@ module _ (lens ops : List ℕ) (count : ℕ) (recs : List Rec) where
         inside = omega arith;
       }
 
-  module _ (n k : ℕ) (x : Counted) (e : length (take count recs) ≡ n) (s : Sums lens ops count recs k x) where
-    pub sums_on : k < n → Sums lens ops count recs (k + 1) (weighed x (here recs k) (get_or ops (start lens k + (here recs k).at) 0))
-    sums_on lt =
+  module _ (k : ℕ) (x : Counted) (s : Sums lens ops l k x) where
+    pub sums_on : k < length l → Sums lens ops l (k + 1) (weighed x (here l k) (get_or ops (start lens k + (here l k).at) 0))
+    sums_on there =
         record {
-          check = sum_on (at ReadCheck) count n recs k x.check e s.check lt;
-          back = sum_on (at ReadBack) count n recs k x.back e s.back lt;
-          reading = sum_on (at Reading) count n recs k x.reading e s.reading lt;
-          wait = sum_on (at WriteWait) count n recs k x.wait e s.wait lt;
-          take = sum_on (at WriteTake) count n recs k x.take e s.take lt;
-          writing = sum_on (at Writing) count n recs k x.writing e s.writing lt;
-          put = sum_on (at WritePut) count n recs k x.put e s.put lt;
-          busy = sum_on outside count n recs k x.busy e s.busy lt;
-          inside = sum_on (within lens ops) count n recs k x.inside e s.inside lt;
+          check = next_summed (at ReadCheck) l k x.check s.check there;
+          back = next_summed (at ReadBack) l k x.back s.back there;
+          reading = next_summed (at Reading) l k x.reading s.reading there;
+          wait = next_summed (at WriteWait) l k x.wait s.wait there;
+          take = next_summed (at WriteTake) l k x.take s.take there;
+          writing = next_summed (at Writing) l k x.writing s.writing there;
+          put = next_summed (at WritePut) l k x.put s.put there;
+          busy = next_summed outside l k x.busy s.busy there;
+          inside = next_summed (within lens ops) l k x.inside s.inside there;
         }
 
-    pub sums_over : n ≤ k → as_tally x ≡ tally (unvalued lens ops) (take count recs)
-    sums_over over =
+    pub sums_over : length l ≤ k → as_tally x ≡ tally (unvalued lens ops) l
+    sums_over past =
         λ i. record {
-          check = sum_over (at ReadCheck) count n recs k x.check e s.check over i;
-          back = sum_over (at ReadBack) count n recs k x.back e s.back over i;
-          reading = sum_over (at Reading) count n recs k x.reading e s.reading over i;
-          wait = sum_over (at WriteWait) count n recs k x.wait e s.wait over i;
-          take = sum_over (at WriteTake) count n recs k x.take e s.take over i;
-          writing = sum_over (at Writing) count n recs k x.writing e s.writing over i;
-          put = sum_over (at WritePut) count n recs k x.put e s.put over i;
-          busy = sum_over outside count n recs k x.busy e s.busy over i;
-          inside = sum_over (within lens ops) count n recs k x.inside e s.inside over i;
-        }
-
-    pub sums_few : n ≤ 16 → Few x
-    sums_few h =
-        let few : length (take count recs) ≤ 16 = omega arith in
-        record {
-          check = light (at ReadCheck) count recs k x.check (λ j r. bit_light (is r.place ReadCheck)) few s.check;
-          back = light (at ReadBack) count recs k x.back (λ j r. bit_light (is r.place ReadBack)) few s.back;
-          reading = light (at Reading) count recs k x.reading (λ j r. bit_light (is r.place Reading)) few s.reading;
-          wait = light (at WriteWait) count recs k x.wait (λ j r. bit_light (is r.place WriteWait)) few s.wait;
-          take = light (at WriteTake) count recs k x.take (λ j r. bit_light (is r.place WriteTake)) few s.take;
-          writing = light (at Writing) count recs k x.writing (λ j r. bit_light (is r.place Writing)) few s.writing;
-          put = light (at WritePut) count recs k x.put (λ j r. bit_light (is r.place WritePut)) few s.put;
-          busy = light outside count recs k x.busy (λ j r. omega arith) few s.busy;
-          inside = light (within lens ops) count recs k x.inside (λ j r. took_light r.place (eqb ((unvalued lens ops).op j r.at) into_inner)) few s.inside;
+          check = all_summed (at ReadCheck) l k x.check s.check past i;
+          back = all_summed (at ReadBack) l k x.back s.back past i;
+          reading = all_summed (at Reading) l k x.reading s.reading past i;
+          wait = all_summed (at WriteWait) l k x.wait s.wait past i;
+          take = all_summed (at WriteTake) l k x.take s.take past i;
+          writing = all_summed (at Writing) l k x.writing s.writing past i;
+          put = all_summed (at WritePut) l k x.put s.put past i;
+          busy = all_summed outside l k x.busy s.busy past i;
+          inside = all_summed (within lens ops) l k x.inside s.inside past i;
         }

@@ -1,5 +1,5 @@
 -- The counts as the code has them, for those of the definition; and the clauses on counts, in the four parts in which the code tests them.
-use Rattle.std.specs.Prelude.{ℕ, ◌+◌, ◌≤◌, Bool, ◌||◌, ◌&&◌, not, List, [], eqb, leb}
+use Rattle.std.specs.Prelude.{ℕ, ◌+◌, ◌<◌, ◌≤◌, ◌^◌, Bool, ◌||◌, ◌&&◌, not, List, [], eqb, leb}
 use Rattle.cell.specs.Value.{kept, is_full}
 use Rattle.cell.specs.Pred.{permits}
 use Rattle.machine.specs.Lists.{lists, scripts_of}
@@ -45,17 +45,13 @@ weighed n r o =
       inside = n.inside + inside_of (λ k. o) r;
     }
 
--- no count is above that of the records
-pub record Few (n : Counted) : Type 0 where
-  pub check : n.check ≤ 16
-  pub back : n.back ≤ 16
-  pub reading : n.reading ≤ 16
-  pub wait : n.wait ≤ 16
-  pub take : n.take ≤ 16
-  pub writing : n.writing ≤ 16
-  pub put : n.put ≤ 16
-  pub busy : n.busy ≤ 16
-  pub inside : n.inside ≤ 16
+-- of so many records: each that is not Idle stands at one place, and no other is inside operation 7
+abbrev pub Among : ℕ → Counted → Type 0
+Among k n = (n.check + n.back + n.reading + n.wait + n.take + n.writing + n.put ≤ n.busy) × (n.inside ≤ n.busy) × (n.busy ≤ k)
+
+-- no more than a slice holds
+abbrev pub Few : Counted → Type 0
+Few n = (k : ℕ) × (k < 2 ^ 63) × Among k n
 
 -- ---- the clauses on counts: `test_counts` is these four together
 abbrev pub test_readers : Lock → Tally → Bool

@@ -1,7 +1,7 @@
 // The test of tidiness: the lock is clean, and the rest of every script is made of whole sections that release permitted values.
 #![tactic(auto)]
 
-ghost use Rattle.std.specs.Prelude.{◌≡◌, ◌-◌, ◌≤◌, take};
+ghost use Rattle.std.specs.Prelude.{◌≡◌, ◌-◌, ◌≤◌};
 ghost use Rattle.machine.specs.Lists.{lent, scripts_of};
 ghost use Rattle.machine.specs.Sound.{every};
 ghost use Rattle.machine.specs.Tidy.{mode_of, tidy_rest, is_clean, tidy};
@@ -9,25 +9,22 @@ ghost use Rattle.lock_tidy.specs.Rests.{mode, goes_on, held_after, is_free, word
 
 use cell::pred;
 use cell::pred::Pred;
-use lock_words::names::{
-    ACQUIRE_READ, ACQUIRE_WRITE, BORROWS, MOST_THREADS, RELEASE_READ, RELEASE_WRITE,
-};
+use lock_words::names::{ACQUIRE_READ, ACQUIRE_WRITE, BORROWS, RELEASE_READ, RELEASE_WRITE};
 use machine::{Lists, Lock, Place, Rec};
 
 // What a thread holds between two operations.
-#[derive(Clone, Copy)]
+#[derive(Clone, Copy, PartialEq, Eq)]
 enum Held {
     Nothing,
     Read,
     Write,
 }
 
-// The records are the first `count` of the array, all 16 where count is above 16.
-pub fn is_tidy(lists: Lists, lock: Lock, recs: [Rec; 16], count: u64) -> bool
-    ensures { result ≡ tidy (scripts_of (lent lists.entry)) lock (take count recs) }
+#[tactic(auto, unfolding(machine::specs::Tidy::tidy))]
+pub fn is_tidy(lists: Lists, lock: Lock, recs: &[Rec]) -> bool
+    ensures { result ≡ tidy (scripts_of (lent lists.entry)) lock recs.now }
 {
-    let pred = lock.pred;
-    is_clean(lock) & all_tidy(lists, pred, recs, count)
+    is_clean(lock) && all_tidy(lists, lock.pred, recs)
 }
 
 // What it holds as its present operation starts.
@@ -35,15 +32,9 @@ fn held_at(place: Place) -> Held
     ensures { mode result ≡ mode_of place }
 {
     match place {
-        Place::Idle => Held::Nothing,
-        Place::ReadTry => Held::Nothing,
-        Place::ReadCheck => Held::Nothing,
-        Place::ReadBack => Held::Nothing,
         Place::Reading => Held::Read,
-        Place::WriteWait => Held::Nothing,
-        Place::WriteTake => Held::Nothing,
-        Place::Writing => Held::Write,
-        Place::WritePut => Held::Write,
+        Place::Writing | Place::WritePut => Held::Write,
+        _ => Held::Nothing,
     }
 }
 
@@ -52,9 +43,9 @@ fn goes_on(pred: Pred, held: Held, o: u64, v: u64) -> bool
     ensures { result ≡ goes_on pred (mode held) o v }
 {
     match held {
-        Held::Nothing => (o == ACQUIRE_READ) | (o == ACQUIRE_WRITE),
-        Held::Read => (o == BORROWS) | (o == RELEASE_READ),
-        Held::Write => (o == RELEASE_WRITE) & pred::permits(pred, v),
+        Held::Nothing => o == ACQUIRE_READ || o == ACQUIRE_WRITE,
+        Held::Read => o == BORROWS || o == RELEASE_READ,
+        Held::Write => o == RELEASE_WRITE && pred::permits(pred, v),
     }
 }
 
@@ -62,22 +53,10 @@ fn goes_on(pred: Pred, held: Held, o: u64, v: u64) -> bool
 fn held_after(o: u64) -> Held
     ensures { result ≡ held_after o }
 {
-    if (o == ACQUIRE_READ) | (o == BORROWS) {
-        Held::Read
-    } else if o == ACQUIRE_WRITE {
-        Held::Write
-    } else {
-        Held::Nothing
-    }
-}
-
-fn is_free(held: Held) -> bool
-    ensures { result ≡ is_free (mode held) }
-{
-    match held {
-        Held::Nothing => true,
-        Held::Read => false,
-        Held::Write => false,
+    match o {
+        ACQUIRE_READ | BORROWS => Held::Read,
+        ACQUIRE_WRITE => Held::Write,
+        _ => Held::Nothing,
     }
 }
 
@@ -97,17 +76,15 @@ fn rest_holds(
     ensures { result ≡ tidy_rest pred (words_at ops.now op0) (words_at vals.now val0) (mode first) from (len - from) }
 {
     let mut held = first;
-    let mut at = from;
-    while at < len {
+    for at in from..len {
         let o = lock_scripts::word_at(ops, op0, at);
         let v = lock_scripts::word_at(vals, val0, at);
         if !goes_on(pred, held, o, v) {
             return false;
         }
         held = held_after(o);
-        at += 1;
     }
-    is_free(held)
+    held == Held::Nothing
 }
 
 // The rest of thread i's script, from its record on.
@@ -115,11 +92,9 @@ fn rest_tidy(lists: Lists, i: u64, pred: Pred, r: Rec) -> bool
     ensures { result ≡ tidy_at lists.entry.lens.now lists.entry.ops.now lists.entry.vals.now pred i r }
 {
     let len = lock_scripts::length_at(lists.lens, i);
-    let from = r.at;
-    if len < from {
+    if len < r.at {
         return false;
     }
-    let place = r.place;
     let op0 = lock_scripts::start_of(lists.lens, i, lists.ops.len() as u64);
     let val0 = lock_scripts::start_of(lists.lens, i, lists.vals.len() as u64);
     rest_holds(
@@ -128,35 +103,24 @@ fn rest_tidy(lists: Lists, i: u64, pred: Pred, r: Rec) -> bool
         lists.vals,
         val0,
         pred,
-        held_at(place),
-        from,
+        held_at(r.place),
+        r.at,
         len,
     )
 }
 
-// The rests of the scripts of the first `count` records.
-fn all_tidy(lists: Lists, pred: Pred, recs: [Rec; 16], count: u64) -> bool
-    ensures { result ≡ every (tidy_at lists.entry.lens.now lists.entry.ops.now lists.entry.vals.now pred) 0 (take count recs) }
+// The rest of each record's script.
+fn all_tidy(lists: Lists, pred: Pred, recs: &[Rec]) -> bool
+    ensures { result ≡ every (tidy_at lists.entry.lens.now lists.entry.ops.now lists.entry.vals.now pred) 0 recs.now }
 {
-    let n = lock_words::smaller(count, MOST_THREADS);
-    let mut k = 0;
-    while k < n {
-        let r = recs[k as usize];
-        if !rest_tidy(lists, k, pred, r) {
-            return false;
-        }
-        k += 1;
-    }
-    true
+    recs.iter()
+        .enumerate()
+        .all(|(i, &r)| rest_tidy(lists, i as u64, pred, r))
 }
 
 // Nothing is dropped, nobody moves the value out, and the lock isn't finished.
 fn is_clean(lock: Lock) -> bool
     ensures { result ≡ is_clean lock }
 {
-    let reads = lock.reads;
-    let writes = lock.writes;
-    let mover = lock.mover;
-    let none = (reads.0 == 0) & (writes.0 == 0) & (lock_words::moving(mover) == 0);
-    none & !lock.finished
+    lock.reads.0 == 0 && lock.writes.0 == 0 && lock.mover.is_none() && !lock.finished
 }

@@ -16,40 +16,21 @@ pub fn bit(b: bool) -> u64
     ensures value { result ≡ bit b }
     ensures upper_bound { result ≤ 1 }
 {
-    if b { 1 } else { 0 }
-}
-
-fn place_no(place: Place) -> u64
-    ensures { result ≡ place_no place }
-{
-    match place {
-        Place::Idle => 0,
-        Place::ReadTry => 1,
-        Place::ReadCheck => 2,
-        Place::ReadBack => 3,
-        Place::Reading => 4,
-        Place::WriteWait => 5,
-        Place::WriteTake => 6,
-        Place::Writing => 7,
-        Place::WritePut => 8,
-    }
+    u64::from(b)
 }
 
 // Whether the two places are one.
 pub fn is(place: Place, other: Place) -> bool
     ensures { result ≡ is place other }
 {
-    place_no(place) == place_no(other)
+    place == other
 }
 
 // 1 if there is a mover.
 pub fn moving(m: Option<u64>) -> u64
     ensures { result ≡ moving m }
 {
-    match m {
-        None => 0,
-        Some(_) => 1,
-    }
+    u64::from(m.is_some())
 }
 
 // 1 for a full cell.
@@ -57,10 +38,7 @@ pub fn full(c: Option<u64>) -> u64
     ensures value { result ≡ bit (is_full c) }
     ensures upper_bound { result ≤ 1 }
 {
-    match c {
-        None => 0,
-        Some(_) => 1,
-    }
+    u64::from(c.is_some())
 }
 
 // Whether total is rest and part together, where the two may add up to more than a number holds.
@@ -73,7 +51,7 @@ pub fn is_sum(total: u64, rest: u64, part: u64) -> bool
 pub fn smaller(a: u64, b: u64) -> u64
     ensures { result ≡ min a b }
 {
-    if a <= b { a } else { b }
+    a.min(b)
 }
 
 pub fn may_go(mover: Option<u64>, i: u64) -> bool
@@ -88,10 +66,7 @@ pub fn may_go(mover: Option<u64>, i: u64) -> bool
 pub fn begun(mover: Option<u64>, i: u64) -> bool
     ensures { result ≡ begun mover i }
 {
-    match mover {
-        None => false,
-        Some(t) => t == i,
-    }
+    mover == Some(i)
 }
 
 pub fn rec_at(at: u64, place: Place, seen: Count, taken: u64) -> Rec
@@ -117,84 +92,51 @@ pub fn goes(rec: Rec, place: Place) -> Rec
     plain(rec.at, place)
 }
 
-pub fn with_exc(mut lock: Lock, b: bool) -> Lock
+pub fn with_exc(lock: Lock, b: bool) -> Lock
     ensures { result ≡ with_exc lock b }
 {
-    lock.exc = b;
-    lock
+    Lock { exc: b, ..lock }
 }
 
-pub fn with_rc(mut lock: Lock, n: Count) -> Lock
+pub fn with_rc(lock: Lock, n: Count) -> Lock
     ensures { result ≡ with_rc lock n.0 }
 {
-    lock.rc = n;
-    lock
+    Lock { rc: n, ..lock }
 }
 
-pub fn with_reads(mut lock: Lock, n: Count) -> Lock
+pub fn with_reads(lock: Lock, n: Count) -> Lock
     ensures { result ≡ with_reads lock n.0 }
 {
-    lock.reads = n;
-    lock
+    Lock { reads: n, ..lock }
 }
 
-pub fn with_writes(mut lock: Lock, n: Count) -> Lock
+pub fn with_writes(lock: Lock, n: Count) -> Lock
     ensures { result ≡ with_writes lock n.0 }
 {
-    lock.writes = n;
-    lock
+    Lock { writes: n, ..lock }
 }
 
 pub fn with_cell(lock: Lock, cell: Option<u64>) -> Lock
     ensures { result ≡ with_cell lock cell }
 {
-    let mover = lock.mover;
-    anew(lock, cell, mover, lock.finished)
+    Lock { cell, ..lock }
 }
 
 pub fn with_mover(lock: Lock, mover: Option<u64>) -> Lock
     ensures { result ≡ with_mover lock mover }
 {
-    let cell = lock.cell;
-    anew(lock, cell, mover, lock.finished)
+    Lock { mover, ..lock }
 }
 
 // The end, with what the last take left in the cell.
 pub fn with_end(lock: Lock, cell: Option<u64>) -> Lock
     ensures { result ≡ with_cell (with_end lock) cell }
 {
-    anew(lock, cell, None, true)
-}
-
-// A field that is an enum is changed by making the lock anew.
-fn anew(lock: Lock, cell: Option<u64>, mover: Option<u64>, finished: bool) -> Lock
-    ensures { result ≡ record {
-      exc = lock.exc;
-      rc = lock.rc;
-      cell = cell;
-      pred = lock.pred;
-      top = lock.top;
-      reads = lock.reads;
-      writes = lock.writes;
-      mover = mover;
-      finished = finished;
-    } }
-{
-    let rc = lock.rc;
-    let pred = lock.pred;
-    let top = lock.top;
-    let reads = lock.reads;
-    let writes = lock.writes;
     Lock {
-        exc: lock.exc,
-        rc,
         cell,
-        pred,
-        top,
-        reads,
-        writes,
-        mover,
-        finished,
+        mover: None,
+        finished: true,
+        ..lock
     }
 }
 

@@ -1,4 +1,8 @@
 // The numbers of the rules, by name, as machine's specs/Names has them.
+ghost use Rattle.std.specs.Prelude.{◌≡◌};
+ghost use Rattle.lock_words.specs.Refused.{number_of, alone};
+
+use machine::Refusal;
 
 // Operations of a script.
 pub const ACQUIRE_READ: u64 = 1;
@@ -92,3 +96,61 @@ pub const MOST_THREADS: u64 = 16;
 
 // The most operations of a script.
 pub const LONGEST_SCRIPT: u64 = 64;
+
+// Why something is refused.
+#[derive(Clone, Copy, PartialEq, Eq)]
+pub enum Refused {
+    ThreadCount,
+    TopIsZero,
+    BadPredicate,
+    FirstValue,
+    ScriptTooLong,
+    WrongLengths,
+    WrongCode,
+    Unsound,
+    NoThread,
+    ScriptFinished,
+    LockGone,
+    DoesNotFit,
+    OthersBusy,
+    NotPermitted,
+    Untidy,
+}
+
+// The number that the table of refusals has for it.
+impl From<Refused> for u64 {
+    ghost from_gives = { λ why number. number ≡ number_of why };
+
+    fn from(why: Refused) -> u64 {
+        match why {
+            Refused::ThreadCount => 1,
+            Refused::TopIsZero => 2,
+            Refused::BadPredicate => 3,
+            Refused::FirstValue => 4,
+            Refused::ScriptTooLong => 5,
+            Refused::WrongLengths => 6,
+            Refused::WrongCode => 7,
+            Refused::Unsound => 10,
+            Refused::NoThread => 11,
+            Refused::ScriptFinished => 12,
+            Refused::LockGone => 13,
+            Refused::DoesNotFit => 14,
+            Refused::OthersBusy => 15,
+            Refused::NotPermitted => 16,
+            Refused::Untidy => 17,
+        }
+    }
+}
+
+// Nothing stands beside it.
+impl From<Refused> for Refusal {
+    ghost from_gives = { λ why refusal. refusal ≡ alone (number_of why) };
+
+    fn from(why: Refused) -> Refusal {
+        Refusal {
+            number: u64::from(why),
+            thread: 0,
+            place: 0,
+        }
+    }
+}

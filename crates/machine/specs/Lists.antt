@@ -1,5 +1,5 @@
 -- How scripts lie in the lists that are lent, and the checks 5, 6 and 7 of them.
-use Rattle.std.specs.Prelude.{ℕ, zero, suc, ◌+◌, Bool, ◌||◌, ◌&&◌, not, cond, List, [], ◌∷◌, eqb, ltb, length, get_or, take}
+use Rattle.std.specs.Prelude.{ℕ, zero, suc, ◌+◌, Bool, ◌||◌, ◌&&◌, not, cond, List, [], ◌∷◌, Err, Ok, Result, Option, None, Some, eqb, ltb, length, get_or, take}
 use Rattle.machine.specs.Names.{release_write, into_inner, script_too_long, wrong_lengths, wrong_code, longest_script}
 use Rattle.machine.specs.Refusals.{Check, gives}
 use Rattle.machine.specs.Step.{Scripts}
@@ -73,3 +73,11 @@ beside s k =
       thread = cond (eqb k script_too_long) (long_thread s.lens) (cond (eqb k wrong_code) (wrong_thread (scripts_of s) (length s.lens)) 0);
       place = cond (eqb k wrong_code) (wrong_place (scripts_of s) (wrong_thread (scripts_of s) (length s.lens))) 0;
     }
+
+-- what is answered where the lowest refusal is k: nothing where that is 0
+abbrev pub answered : Lent → ℕ → Result (Unit {0}) Refusal
+answered s k = cond (eqb k 0) (Ok tt) (Err (beside s k))
+
+-- a refusal whose number is 0 is none
+abbrev pub some_refusal : Refusal → Option Refusal
+some_refusal r = cond (eqb r.number 0) None (Some r)

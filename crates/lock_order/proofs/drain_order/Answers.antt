@@ -1,78 +1,47 @@
 -- `drain_order` meets its contract: drain's refusal, else 41 where its entries have no room, else the entries with their bound. Assumes nothing.
-use mathlib.Core.Path.{◌≡◌}
+use mathlib.Core.Path.{◌≡◌, ap, ◌∙◌}
 use native.Mathlib.Omega.{arith}
 use lib.ListN.{length, take}
 use Rattle.machine.specs.Lists.{lent}
+use Rattle.lock.specs.declared.drain.DrainReturn.{DrainReturn}
 use Rattle.lock.proofs.Draining.{none_of_run}
 use Rattle.lock_order.proofs.Ordering.{within_is, none_is, n_is, left_alone, too_small, written}
 use Rattle.lock_order.proofs.drain_order.Goals as goal
 
-pub returns-then-why-ne-NONE-clause-value : goal.returns-then-why-ne-NONE-clause-value
-returns-then-why-ne-NONE-clause-value c =
-    let first = c in
-    let a = first.args in
-    let s = lent a.lists in
-    let d = c.drain-end in
-    (left_alone s a.count a.lock a.recs a.out.now d.result d.ensures c.if-why-ne-NONE.true).0
+pub returns-in-Some : goal.returns-in-Some
+returns-in-Some c =
+    let a = c.args in
+    let is = ap (λ (x : DrainReturn). x.drained) c.drain.ensures in
+    let (answer, list) = left_alone (lent a.lists) a.count a.lock a.recs a.out.now c.drain.result.drained is _ c.in-Some.is in
+    record { value = c.refused.ensures ∙ answer; out_after = list }
 
-pub returns-then-why-ne-NONE-clause-out_after : goal.returns-then-why-ne-NONE-clause-out_after
-returns-then-why-ne-NONE-clause-out_after c =
-    let first = c in
-    let a = first.args in
-    let s = lent a.lists in
-    let d = c.drain-end in
-    (left_alone s a.count a.lock a.recs a.out.now d.result d.ensures c.if-why-ne-NONE.true).1
+pub returns-then-out-end : goal.returns-then-out-end
+returns-then-out-end c =
+    let a = c.args in
+    let is = ap (λ (x : DrainReturn). x.drained) c.drain.ensures in
+    let (answer, list) = too_small (lent a.lists) a.count a.lock a.recs a.out.now c.drain.result.drained is c.in_default.is c.if-out-end.true in
+    record { value = c.refused-then-out-end.ensures ∙ answer; out_after = list }
 
-pub returns-then-out-end-clause-value : goal.returns-then-out-end-clause-value
-returns-then-out-end-clause-value c =
-    let first = c in
-    let a = first.args in
+pub write-requires : goal.write-requires
+write-requires c =
+    let a = c.args in
     let s = lent a.lists in
-    let d = c.drain-end in
-    (too_small s a.count a.lock a.recs a.out.now d.result d.ensures c.if-why-ne-NONE.false c.if-out-end.true).0
+    let d = c.drain.result.drained in
+    let is = ap (λ (x : DrainReturn). x.drained) c.drain.ensures in
+    let wide : length a.recs ≡ 16 = omega (arith, c.well_formed) in
+    let none = none_is s a.count a.lock a.recs a.out.now d is c.in_default.is in
+    let n = n_is s a.count a.lock a.recs a.out.now d is c.in_default.is in
+    record {
+      recs_value = none_of_run s a.count a.lock (take a.count a.recs) none;
+      recs_in_bounds = rw (within_is s a.count a.lock a.recs wide none d.n n) (omega (arith, n, c.if-out-end.false));
+    }
 
-pub returns-then-out-end-clause-out_after : goal.returns-then-out-end-clause-out_after
-returns-then-out-end-clause-out_after c =
-    let first = c in
-    let a = first.args in
-    let s = lent a.lists in
-    let d = c.drain-end in
-    (too_small s a.count a.lock a.recs a.out.now d.result d.ensures c.if-why-ne-NONE.false c.if-out-end.true).1
-
-pub write-requires-clause-recs_value : goal.write-requires-clause-recs_value
-write-requires-clause-recs_value c =
-    let first = c in
-    let a = first.args in
-    let s = lent a.lists in
-    let d = c.drain-end in
-    let wide : length a.recs ≡ 16 = omega (arith, first.well_formed) in
-    let none = none_is s a.count a.lock a.recs a.out.now d.result d.ensures c.if-why-ne-NONE.false in
-    let n = n_is s a.count a.lock a.recs a.out.now d.result d.ensures c.if-why-ne-NONE.false in none_of_run s a.count a.lock (take a.count a.recs) none
-
-pub write-requires-clause-recs_in_bounds : goal.write-requires-clause-recs_in_bounds
-write-requires-clause-recs_in_bounds c =
-    let first = c in
-    let a = first.args in
-    let s = lent a.lists in
-    let d = c.drain-end in
-    let wide : length a.recs ≡ 16 = omega (arith, first.well_formed) in
-    let none = none_is s a.count a.lock a.recs a.out.now d.result d.ensures c.if-why-ne-NONE.false in
-    let n = n_is s a.count a.lock a.recs a.out.now d.result d.ensures c.if-why-ne-NONE.false in rw (within_is s a.count a.lock a.recs wide none d.result.n n) (omega (arith, n, c.if-out-end.false))
-
-pub returns-clause-value : goal.returns-clause-value
-returns-clause-value c =
-    let first = c in
-    let a = first.args in
-    let s = lent a.lists in
-    let d = c.drain-end in
-    let wide : length a.recs ≡ 16 = omega (arith, first.well_formed) in
-    (written s a.count a.lock a.recs a.out.now d.result d.ensures wide c.if-why-ne-NONE.false c.if-out-end.false _ c.write.ensures c.bound_of.result c.bound_of.ensures).0
-
-pub returns-clause-out_after : goal.returns-clause-out_after
-returns-clause-out_after c =
-    let first = c in
-    let a = first.args in
-    let s = lent a.lists in
-    let d = c.drain-end in
-    let wide : length a.recs ≡ 16 = omega (arith, first.well_formed) in
-    (written s a.count a.lock a.recs a.out.now d.result d.ensures wide c.if-why-ne-NONE.false c.if-out-end.false _ c.write.ensures c.bound_of.result c.bound_of.ensures).1
+pub returns : goal.returns
+returns c =
+    let a = c.args in
+    let is = ap (λ (x : DrainReturn). x.drained) c.drain.ensures in
+    let wide : length a.recs ≡ 16 = omega (arith, c.well_formed) in
+    let (answer, list) =
+    written (lent a.lists) a.count a.lock a.recs a.out.now c.drain.result.drained is wide c.in_default.is c.if-out-end.false _ c.write.ensures c.bound_of.result c.bound_of.ensures
+    in
+    record { value = answer; out_after = list }

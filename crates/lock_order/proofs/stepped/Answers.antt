@@ -9,5 +9,5 @@ returns c =
     let first = c in
     let a = first.args in
     let s = lent a.lists in
-    let ran = c.run-ran in
+    let ran = c.run-left in
     ran_one s a.count a.from first.requires.able a.i _ refl ran.result ran.ensures.value

@@ -1,21 +1,30 @@
--- `start_of` meets its contract. The loop's invariant: the sum is the start of thread t, and not above `most`. The measure is the number of
--- threads that are left. Assumes nothing.
+-- `start_of` meets its contract. The loop's invariant: the sum is the start of the thread that it has come to, and not above `most`. Assumes
+-- nothing.
 use mathlib.Core.Path.{refl}
 use native.Mathlib.Omega.{arith}
+use Prim.Native.Nat.{◌<◌}
+use lib.ListN.{length-take}
+use lib.Seq.{get_or-take}
 use Rattle.machine.specs.Lists.{total}
 use Rattle.lock_scripts.proofs.Starts.{start_next, start_later}
 use Rattle.lock_scripts.proofs.start_of.Goals as goal
 
-pub loop-t-init : goal.loop-t-init
+pub loop-n-init : goal.loop-n-init
 unfolding total
-loop-t-init c = (omega arith, refl, omega arith)
+loop-n-init c = (refl, omega arith)
 
 pub returns-then-most-sum : goal.returns-then-most-sum
 returns-then-most-sum c =
-    let a = c.args in
-    omega (arith, start_later a.lens.now c.loop-t.t a.i (omega arith))
-
-pub loop-t-preserved : goal.loop-t-preserved
-loop-t-preserved c =
     let lens = c.args.lens.now in
-    (omega arith, omega (arith, start_next lens c.loop-t.t), omega arith)
+    let t = c.loop-n.n-index in
+    let end = c.min-end.result in
+    let here : t < end = omega (arith, length-take end lens) in
+    omega (arith, get_or-take end lens t 0 here, start_later lens t c.args.i (omega arith))
+
+pub loop-n-preserved : goal.loop-n-preserved
+loop-n-preserved c =
+    let lens = c.args.lens.now in
+    let t = c.loop-n.n-index in
+    let end = c.min-end.result in
+    let here : t < end = omega (arith, length-take end lens) in
+    (omega (arith, get_or-take end lens t 0 here, start_next lens t), omega arith)

@@ -1,18 +1,19 @@
--- `wrong_place` meets its contract. The loop's invariant: the search has come to k. The measure is the number of script places that are left.
--- Assumes nothing.
-use mathlib.Core.Path.{sym, ◌∙◌}
-use Rattle.lock_scripts.proofs.Finds.{passed, found, over}
+-- `wrong_place` meets its contract: what `find` gives is the first number of which the test holds. Assumes nothing.
+use mathlib.Core.Path.{◌≡◌}
+use Rattle.std.proofs.Common.{rules, tests}
+use mathlib.Core.Bool.{true, false}
+use Prim.Native.Nat.{ℕ, ◌+◌}
+use lib.ListN.{get_or}
+use Rattle.std.proofs.lemmas.Iterator.{first_from_Range}
+use Rattle.machine.specs.Lists.{wrong}
+use Rattle.lock_scripts.proofs.Finds.{found_in}
 use Rattle.lock_scripts.proofs.wrong_place.Goals as goal
 
-pub returns-then-is_wrong : goal.returns-then-is_wrong
-returns-then-is_wrong c =
-    let wrong = rw (c.word_at-o.ensures, c.word_at-v.ensures) at (sym c.is_wrong.ensures ∙ c.if-is_wrong.true) in
-    sym (found _ _ _ c.loop-k.invariant c.loop-k-test.true wrong)
-
-pub loop-k-preserved : goal.loop-k-preserved
-loop-k-preserved c =
-    let right = rw (c.word_at-o.ensures, c.word_at-v.ensures) at (sym c.is_wrong.ensures ∙ c.if-is_wrong.false) in
-    passed _ _ _ c.loop-k.invariant c.loop-k-test.true right
-
 pub returns : goal.returns
-returns c = sym (over _ _ _ c.loop-k.invariant c.loop-k-test.false)
+returns c =
+    let ops = c.args.ops.now in
+    let vals = c.args.vals.now in
+    let from = c.args.from in
+    let test = λ (k : ℕ). wrong (get_or ops (from + k) 0) (get_or vals (from + k) 0) in
+    found_in test c.args.len c.find.result
+    (first_from_Range _ _ _ _ (λ k. test k ≡ true) (λ k. test k ≡ false) c.find.ensures.ran (λ x q k. search (rules, tests)) (λ x q k. search (rules, tests)))

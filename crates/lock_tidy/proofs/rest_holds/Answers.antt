@@ -1,5 +1,6 @@
 -- `rest_holds` meets its contract. The loop's invariant: the test from here on, with what is held here, is the whole test. Assumes nothing.
 use mathlib.Core.Path.{◌≡◌, sym, ◌∙◌}
+use Rattle.std.proofs.Common.{rules}
 use mathlib.Core.Bool.{true, false}
 use native.Mathlib.Omega.{arith}
 use Rattle.lock_tidy.specs.Rests.{mode, goes_on, words_at}
@@ -33,4 +34,4 @@ returns c =
     let l = c.loop-at in
     let o = words_at a.ops.now a.op0 in
     let v = words_at a.vals.now a.val0 in
-    c.is_free.ensures ∙ rest_over a.pred o v (mode l.held) l.at a.len c.loop-at-test.false ∙ l.invariant.1
+    (search rules) ∙ rest_over a.pred o v (mode l.held) l.at a.len c.loop-at-test.false ∙ l.invariant.1

@@ -9,6 +9,3 @@ abbrev pub invariant-loop-at : goal.invariant-loop-at
 invariant-loop-at l =
     (l.at ≤ l.len)
     × (tidy_rest l.pred (words_at l.ops l.op0) (words_at l.vals l.val0) (mode l.held) l.at (l.len - l.at) ≡ tidy_rest l.pred (words_at l.ops l.op0) (words_at l.vals l.val0) (mode l.initial.held) l.from (l.len - l.from))
-
-abbrev pub decreases-loop-at : goal.decreases-loop-at
-decreases-loop-at l = l.len - l.at

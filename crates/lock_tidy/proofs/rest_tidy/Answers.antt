@@ -13,6 +13,6 @@ returns c =
     let a = c.args in
     let n = get_or a.lists.lens.now a.i 0 in
     let s = start a.lists.lens.now a.i in
-    let h : a.r.at ≤ n = rw c.length_at-len.ensures at c.if-len-from.false in
+    let h : a.r.at ≤ n = rw c.length_at-len.ensures at c.if-len-r.false in
     let p = rw (c.start_of-op0.ensures, c.start_of-val0.ensures, c.held_at.ensures, c.length_at-len.ensures) at c.rest_holds.ensures in
     rw (le-leb a.r.at n h) (p ∙ rest_cut a.pred a.lists.ops.now a.lists.vals.now s s (mode_of a.r.place) a.r.at (n - a.r.at))

@@ -10,4 +10,4 @@ pub returns-then-len-rec : goal.returns-then-len-rec
 unfolding entered_of
 returns-then-len-rec c =
     let a = c.args in
-    rw (finished a.lock a.rec a.i (get_or a.lists.lens.now a.i 0) (a.busy - busy_of a.rec) _ _ c.if-len-rec.true) c.left_alone.ensures
+    rw (finished a.lock a.rec a.i (get_or a.lists.lens.now a.i 0) (a.busy - busy_of a.rec) _ _ c.if-len-rec.true) (rw c.from.ensures at c.left_alone.ensures)

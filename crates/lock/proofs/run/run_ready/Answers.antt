@@ -1,7 +1,7 @@
 -- `run_ready` meets its contract. The loop's invariant: lock, records, counts and trace list are those after the first k entries.
 use native.Mathlib.Omega.{arith}
 use lib.ListN.{length, get_or}
-use Rattle.machine.specs.Lists.{lent, scripts_of, beside}
+use Rattle.machine.specs.Lists.{lent, scripts_of}
 use Rattle.lock.proofs.Refusing.{inside}
 use Rattle.lock.proofs.Running.{Stepped, begins, one_more, may_enter, enters, enters_not, all_done}
 use Rattle.lock.proofs.run.run_ready.Goals as goal
@@ -32,12 +32,10 @@ enter_at-e-requires c =
     }
 
 pub returns-clause-value : goal.returns-clause-value
-unfolding beside
 returns-clause-value c =
     let a = c.args in
     let g = c.loop-k in
-    (all_done (lent a.lists) a.lock a.recs a.schedule.now a.n a.trace.now g.l g.rs g.busy g.done g.k g.trace g.invariant
-    _ c.none.ensures c.loop-k-test.false).0
+    (all_done (lent a.lists) a.lock a.recs a.schedule.now a.n a.trace.now g.l g.rs g.busy g.done g.k g.trace g.invariant c.loop-k-test.false).0
 
 pub loop-k-preserved : goal.loop-k-preserved
 loop-k-preserved c =
@@ -54,7 +52,7 @@ loop-k-preserved c =
           w.if-t-count.true (starts.ensures t w.if-t-count.true) w.enter_at-e.ensures)
       | else-t-count w ↦ rw (w.l-is, w.rs-is, w.busy-is, w.row-is)
           (enters_not s a.lock a.recs a.schedule.now a.n a.trace.now g.l g.rs g.busy g.done g.k g.trace g.invariant c.requires.ready t _
-          w.if-t-count.false c.row_of-row.ensures)
+          w.if-t-count.false (rw c.from.ensures at c.row_of-row.ensures))
     ]
     in
     rw (c.from-done.ensures, c.put_row.ensures)

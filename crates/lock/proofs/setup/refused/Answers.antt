@@ -1,18 +1,17 @@
 -- `refused` meets its contract: setup's own refusal, and where there is none the lists'. Assumes nothing.
-use mathlib.Core.Path.{sym, ◌∙◌}
+use mathlib.Core.Path.{sym}
+use Rattle.std.proofs.lemmas.Result.{err_from_is_err_and}
 use Rattle.machine.specs.Lists.{lent}
-use Rattle.lock.proofs.Begins.{lists_decide, own_decide}
+use Rattle.lock.proofs.Begins.{lists_decide, own_told}
 use Rattle.lock.proofs.setup.refused.Goals as goal
 
-pub returns-then-k-eq-NONE : goal.returns-then-k-eq-NONE
-returns-then-k-eq-NONE c =
+pub returns-in_err-own_refusal : goal.returns-in_err-own_refusal
+returns-in_err-own_refusal c =
     let a = c.args in
-    let s = lent a.lists in
-    let own = sym c.own_refusal-k.ensures ∙ c.if-k-eq-NONE.true in
-    rw (lists_decide a.pred a.top.0 a.first s a.count own) c.refused.ensures
+    let p = err_from_is_err_and c.from_residual.result c.from_residual.ensures.1 in
+    rw (p.1, p.2) (own_told a.pred a.top.0 a.first (lent a.lists) a.count _ c.in_err-own_refusal.ensures)
 
-pub returns-else-k-eq-NONE : goal.returns-else-k-eq-NONE
-returns-else-k-eq-NONE c =
+pub returns : goal.returns
+returns c =
     let a = c.args in
-    let s = lent a.lists in
-    sym (own_decide a.pred a.top.0 a.first s a.count c.own_refusal-k.result c.own_refusal-k.ensures c.if-k-eq-NONE.false)
+    rw (lists_decide a.pred a.top.0 a.first (lent a.lists) a.count (sym c.in_ok-own_refusal.ensures)) c.refused.ensures

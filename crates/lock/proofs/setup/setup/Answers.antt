@@ -5,23 +5,12 @@ use Rattle.lock.proofs.Begins.{records_most, made, kept}
 use Rattle.lock.proofs.setup.setup.Goals as goal
 
 pub begin-requires : goal.begin-requires
-begin-requires c =
-    let a = c.args in
-    let s = lent a.lists in
-    let why = c.refused-why in
-    records_most a.pred a.top.0 a.first s a.count a.recs why.result why.ensures c.if-why-eq-NONE.true
+begin-requires c = let a = c.args in records_most a.pred a.top.0 a.first (lent a.lists) a.count a.recs c.in-Ok.ensures
 
-pub returns-then-why-eq-NONE : goal.returns-then-why-eq-NONE
-returns-then-why-eq-NONE c =
+pub returns-in-Ok : goal.returns-in-Ok
+returns-in-Ok c =
     let a = c.args in
-    let s = lent a.lists in
-    let why = c.refused-why in
-    rw (c.begin.ensures, c.unused.ensures)
-    (sym (made a.pred a.top.0 a.first s a.count a.recs why.result why.ensures c.if-why-eq-NONE.true))
+    rw (c.begin.ensures, c.unused.ensures) (sym (made a.pred a.top.0 a.first (lent a.lists) a.count a.recs c.in-Ok.ensures))
 
-pub returns-else-why-eq-NONE : goal.returns-else-why-eq-NONE
-returns-else-why-eq-NONE c =
-    let a = c.args in
-    let s = lent a.lists in
-    let why = c.refused-why in
-    sym (kept a.pred a.top.0 a.first s a.count a.recs why.result why.ensures c.if-why-eq-NONE.false)
+pub returns-in-Err : goal.returns-in-Err
+returns-in-Err c = let a = c.args in sym (kept a.pred a.top.0 a.first (lent a.lists) a.count a.recs _ c.in-Err.ensures)

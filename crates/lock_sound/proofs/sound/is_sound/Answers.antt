@@ -1,21 +1,16 @@
 -- `is_sound` meets its contract: the tests of the clauses together. The busy that the mover's test is given is the count over the records.
 -- Assumes nothing.
-use mathlib.Core.Path.{ap, ◌∙◌}
-use lib.ListN.{take}
-use Rattle.machine.specs.Sound.{Tally, test_counts, sound}
-use Rattle.lock_sound.proofs.Alone.{mover_same}
+use mathlib.Core.Path.{◌∙◌}
+use Rattle.std.proofs.Common.{arith}
+use Rattle.std.proofs.lemmas.Grind.{common_steps}
+use Rattle.machine.specs.Sound.{sound}
+use Rattle.lock_sound.proofs.Alone.{mover_by}
 use Rattle.lock_sound.proofs.sound.is_sound.Goals as goal
 
-pub returns : goal.returns
+pub returns-then-all_keep : goal.returns-then-all_keep
 unfolding sound
-returns c =
+returns-then-all_keep c =
     let a = c.args in
-    let counts = c.gather-all.ensures.result_value in
-    rw (
-      c.is_good.ensures,
-      c.counts_hold-counted.ensures ∙ ap (λ (N : Tally). test_counts a.lock N) counts,
-      c.all_keep-kept.ensures,
-      c.holds-moved.ensures,
-      ap (λ (N : Tally). N.busy) counts,
-      mover_same a.lists.lens.now a.lists.ops.now a.lists.vals.now (take a.count a.recs) a.lock.mover,
-    )
+    let e = c.gather-all.ensures.result_value in
+    let m = c.holds.ensures ∙ mover_by a.lists.lens.now a.lists.ops.now a.lists.vals.now a.recs.now a.lock.mover c.gather-all.result e in
+    grind (arith, common_steps, m)
