@@ -7,7 +7,7 @@ use native.Mathlib.Omega.{arith}
 use lib.ListN.{length, get_or, take, drop}
 use package.borrow.Author.Tests.{ne_eqb}
 use Rattle.machine.specs.Names.{no_thread, row_words}
-use Rattle.machine.specs.Lists.{Lent, scripts_of, beside}
+use Rattle.machine.specs.Lists.{Lent, scripts_of, beside, some_refusal}
 use Rattle.machine.specs.Step.{Scripts, entry_checks, entry_refusal, step}
 use Rattle.machine.specs.Run.{words_of, run_checks, run_refusal}
 use Rattle.machine.specs.declared.Lock.{Lock}
@@ -20,14 +20,14 @@ use Rattle.machine.proofs.Refusals.{passed}
 use Rattle.lock.specs.ByValue.{run_checks_of, run_refusal_of, run_of}
 use Rattle.lock.specs.Run.{ran_of}
 use Rattle.lock.specs.declared.run.RunReturn.{RunReturn}
-use Rattle.lock.proofs.Refusing.{earlier, later, no_number, number_beside}
+use Rattle.lock.proofs.Told.{earlier, later, none_some, some_some}
 use Rattle.lock_promises.proofs.Refusing.{run_told_by_value}
 use Rattle.lock_promises.proofs.Accesses.{one_entry_by_value}
 use Rattle.why.specs.Why.{reason_of}
 use Rattle.why.specs.Told.{told_by, why_refusal}
 use Rattle.why_code.specs.ByValue.{why_refusal_of, told_of}
 use Rattle.why.specs.declared.Reason.{Reason}
-use Rattle.std.specs.Prelude.{Err, Ok}
+use Rattle.std.specs.Prelude.{Err, None, Ok, Some}
 use Rattle.why.proofs.Answers.{entry_above}
 
 -- ---- the refusal's number
@@ -64,18 +64,18 @@ module _
   abbrev S : Scripts
   S = scripts_of s
 
-  told : r.refusal ≡ beside s (run_refusal_of s count L l)
+  told : r.ran.refusal ≡ some_refusal (beside s (run_refusal_of s count L l))
   told = run_told_by_value s count L recs (i ∷ []) 1 trace r is
 
-  pub run_refused : r.refusal.number ≢ 0 → Err r.refusal ≡ told_of s count L recs i
+  pub run_refused : (why : Refusal) → r.ran.refusal ≡ Some why → Err why ≡ told_of s count L recs i
   unfolding told_of told_by
-  run_refused some =
-      let not_none : run_refusal_of s count L l ≢ 0 = λ z. some (ap (λ (x : Refusal). x.number) told ∙ number_beside s _ ∙ z) in
-      rw (run_first s count L l i not_none, ne_eqb _ 0 not_none) (ap Err told)
+  run_refused why some =
+      let (not_none, same) = some_some s (run_refusal_of s count L l) why (sym told ∙ some) in
+      rw (run_first s count L l i not_none, ne_eqb _ 0 not_none) (ap Err (sym same))
 
-  module _ (none : r.refusal.number ≡ 0) where
+  module _ (none : r.ran.refusal ≡ None) where
     no_refusal : run_refusal_of s count L l ≡ 0
-    no_refusal = no_number s _ r.refusal told none
+    no_refusal = none_some s (run_refusal_of s count L l) (sym told ∙ none)
 
     row_told : trace' ≡ words_of ((step S L l i).row ∷ []) ++ drop row_words trace
     row_told = (one_entry_by_value s count L recs i 1 trace r trace' is trace_is none (omega arith) room).4

@@ -26,9 +26,9 @@ pub fn why(
     ensures { result ≡ told_of (lent lists.entry) count lock recs thread }
 {
     let mut row = [0; ROW_WORDS];
-    let ran = run::run(lists, lock, recs, count, &[thread], 1, &mut row);
-    if ran.refusal.number != NONE {
-        return Err(ran.refusal);
+    let left = run::run(lists, lock, recs, count, &[thread], 1, &mut row);
+    if let Some(refusal) = left.ran.refusal {
+        return Err(refusal);
     }
     let [_, access, answer, got, ..] = row;
     if answer != NONE {
