@@ -10,7 +10,7 @@ use native.Mathlib.Omega.{arith}
 use lib.Dec.{eqb, ltb}
 use lib.ListN.{length, take, drop, set, length-replicate}
 use lib.Seq.{drop-cons, set_at, take_at, drop_at, length-take-le}
-use package.borrow.Author.Tests.{ltb-false, eqb-true, eq-eqb, ne_eqb, not-false}
+use package.borrow.Author.Tests.{ltb-false, eqb-true, ne_eqb, not-false}
 use Rattle.cell.specs.declared.pred.Pred.{Pred}
 use Rattle.machine.specs.Names.{script_too_long, wrong_code, most_threads}
 use Rattle.machine.specs.Words.{unbegun, unused}

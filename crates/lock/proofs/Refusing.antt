@@ -1,14 +1,14 @@
 -- The refusal of a run: those of the lists first, then that of the state. And what a state has that is not refused.
 use Prim.Native.Nat.{ℕ, ◌+◌, ◌<◌, ◌≤◌, min}
 use mathlib.Core.Path.{◌≡◌, refl, ap, sym, ◌∙◌}
-use mathlib.Core.Bool.{Bool, true, false, ◌||◌, not, cond, true≢false, or-true, and-eq-true_iff}
-use mathlib.Core.List.{List, [], ◌∷◌, ◌++◌}
+use mathlib.Core.Bool.{Bool, true, false, ◌||◌, not, true≢false, or-true, and-eq-true_iff}
+use mathlib.Core.List.{List, [], ◌∷◌}
 use native.Mathlib.Omega.{arith}
 use lib.Dec.{eqb, ltb, leb}
 use lib.ListN.{length, get_or, take, take-append-drop}
 use package.borrow.Author.Tests.{ltb-false, leb-true, leb-false, eqb-true, lt-ltb, le-ltb, ne_eqb, not-false}
 use Rattle.machine.specs.Names.{unsound, most_threads, longest_script}
-use Rattle.machine.specs.Refusals.{Check, gives, lowest}
+use Rattle.machine.specs.Refusals.{gives, lowest}
 use Rattle.machine.specs.Lists.{Lent, start, scripts_of, long_thread, list_checks, beside, answered}
 use Rattle.lock_scripts.proofs.Starts.{start_later, start_last}
 use Rattle.machine.specs.Sound.{sound}

@@ -1,18 +1,18 @@
 -- What is answered of a refusal's number: nothing where that is 0, and else the refusal with what stands beside it. And what is answered
 -- where checks come after others.
 use Prim.Native.Nat.{ℕ}
-use mathlib.Core.Path.{◌≡◌, refl, sym}
+use mathlib.Core.Path.{◌≡◌, refl}
 use mathlib.Core.Logic.{◌≢◌}
 use mathlib.Core.Bool.{Bool, true, false, cond}
 use mathlib.Core.List.{List, [], ◌∷◌, ◌++◌}
 use native.Mathlib.Omega.{arith}
 use lib.Dec.{eqb}
 use package.borrow.Author.Tests.{eqb-true, eqb-false, eq-eqb, ne_eqb}
-use Rattle.std.specs.Prelude.{Result, Ok, Err, Option, None, Some}
+use Rattle.std.specs.Prelude.{Result, Ok, Err, None, Some}
 use Rattle.machine.specs.Refusals.{Check, gives, lowest}
 use Rattle.machine.specs.Lists.{Lent, beside, answered, some_refusal}
 use Rattle.machine.specs.declared.Refusal.{Refusal}
-use Rattle.machine.proofs.Refusals.{passed, Passed}
+use Rattle.machine.proofs.Refusals.{Passed}
 use Rattle.lock_words.specs.Refused.{number_of, alone}
 use Rattle.lock_words.specs.declared.names.Refused.{Refused}
 use Rattle.lock_words.specs.declared.names.Refused.TheVariants.{ThreadCount, TopIsZero, BadPredicate, FirstValue, ScriptTooLong, WrongLengths, WrongCode, Unsound, NoThread, ScriptFinished, LockGone, DoesNotFit, OthersBusy, NotPermitted, Untidy}

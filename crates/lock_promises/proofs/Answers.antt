@@ -1,4 +1,5 @@
 -- The answers of setup, run and drain are exact, of what the functions return; and the state after a setup that makes a lock.
+use Rattle.lock_promises.specs.Given.{refusal_in}
 use Prim.Native.Nat.{ℕ, ◌*◌, ◌≤◌, ◌<◌}
 use mathlib.Core.Path.{◌≡◌, refl, sym, ap, ◌∙◌}
 use mathlib.Core.Logic.{inl, inr}
@@ -36,7 +37,7 @@ use Rattle.lock.specs.ByValue.{put_back, setup_of, run_checks_of, run_refusal_of
 use Rattle.lock.proofs.Refusing.{number_beside, bad, bad_state}
 use Rattle.lock.proofs.Begins.{count_most}
 use Rattle.lock_promises.specs.Answers.{ExactRefusal, number_of, SetupSays, SetupAnswer, SetupAnswerByValue, SetupState, SetupStateByValue, RunAnswer, AtRunOf, RunAnswerByValue, RestAnswerByValue, DrainAnswer, AtDrainOf, DrainAnswerByValue}
-use Rattle.lock_promises.proofs.Refusing.{run_told, drain_told, run_told_by_value, drain_told_by_value}
+use Rattle.lock_promises.proofs.Refusing.{run_told, drain_told, run_told_by_value, drain_told_by_value, in_some}
 use Rattle.lock_promises.proofs.Reached.{made_none}
 use Rattle.lock_promises.proofs.ByValue.{put_back_length}
 
@@ -168,7 +169,8 @@ module _ (s : Lent) (count : ℕ) (L : Lock) (l : List Rec) where
 pub run_answer_by_value : RunAnswerByValue
 run_answer_by_value s count L recs schedule budget trace r is =
     let l = take count recs in
-    exact_beside (AtRunOf s count L l) s (run_refusal_of s count L l) r.refusal (run_told_by_value s count L recs schedule budget trace r is)
+    exact_beside (AtRunOf s count L l) s (run_refusal_of s count L l) (refusal_in r.ran.refusal)
+    (ap refusal_in (run_told_by_value s count L recs schedule budget trace r is) ∙ in_some s (run_refusal_of s count L l))
     (run_exact_of s count L l)
 
 pub rest_answer_by_value : RestAnswerByValue
@@ -180,4 +182,5 @@ drain_answer s L l left is = exact_beside (AtDrain s L l) s (drain_refusal s L l
 pub drain_answer_by_value : DrainAnswerByValue
 drain_answer_by_value s count L recs d is =
     let l = take count recs in
-    exact_beside (AtDrainOf s count L l) s (drain_refusal_of s count L l) d.refusal (drain_told_by_value s count L recs d is) (drain_exact_of s count L l)
+    exact_beside (AtDrainOf s count L l) s (drain_refusal_of s count L l) (refusal_in d.drained.refusal)
+    (ap refusal_in (drain_told_by_value s count L recs d is) ∙ in_some s (drain_refusal_of s count L l)) (drain_exact_of s count L l)

@@ -1,4 +1,5 @@
 -- With records by value, the first `count` records of the array are reached as a list of records; the array keeps its length.
+use Rattle.lock_promises.proofs.Refusing.{none_number}
 use Prim.Native.Nat.{ℕ, ◌*◌, ◌≤◌}
 use mathlib.Core.Path.{◌≡◌, refl, sym, ap, ◌∙◌}
 use mathlib.Core.List.{List, [], ◌++◌}
@@ -15,7 +16,7 @@ use Rattle.machine.specs.Drain.{Order, drain_lent}
 use Rattle.machine.specs.declared.Lock.{Lock}
 use Rattle.machine.specs.declared.Rec.{Rec}
 use Rattle.machine.specs.declared.Row.{Row}
-use Rattle.std.specs.Prelude.{Ok}
+use Rattle.std.specs.Prelude.{Ok, None}
 use Rattle.lock.specs.ByValue.{put_back, setup_of, run_of, drain_of}
 use Rattle.lock.specs.Run.{ran_of, rest_of, rest_trace}
 use Rattle.lock.specs.Setup.{begun_of}
@@ -60,7 +61,7 @@ module _ (s : Lent) (q : Pred) (m v count : ℕ) where
   one_more : {L : Lock} {recs : List Rec} {rows : List Row} → FirstRecords s q m v count L recs rows
       → (schedule : List ℕ) (budget : ℕ) (trace : List ℕ) (r : RunReturn) (trace' : List ℕ)
       → r ≡ ran_of count recs (run_of s count L recs schedule budget trace) → trace' ≡ (run_of s count L recs schedule budget trace).trace
-      → FirstRecords s q m v count r.lock r.recs (rows ++ rows_in r.n trace')
+      → FirstRecords s q m v count r.ran.lock r.recs (rows ++ rows_in r.ran.n trace')
   one_more {L} {recs} {rows} f schedule budget trace r trace' is trace_is =
       let left = run_lent s L (take count recs) schedule budget trace in
       let enough : count ≤ length recs = omega (arith, f.wide, f.few) in
@@ -73,15 +74,15 @@ module _ (s : Lent) (q : Pred) (m v count : ℕ) where
       }
 
   drain_more : {L : Lock} {recs : List Rec} {rows : List Row} → FirstRecords s q m v count L recs rows
-      → (d : DrainReturn) (es : List ℕ) → d ≡ drained_of count recs (drain_of s count L recs) → d.refusal.number ≡ 0
-      → Order (scripts_of s) L (take count recs) es d.lock (take count d.recs)
-      → FirstRecords s q m v count d.lock d.recs (rows ++ (run (scripts_of s) L (take count recs) es).rows)
+      → (d : DrainReturn) (es : List ℕ) → d ≡ drained_of count recs (drain_of s count L recs) → d.drained.refusal ≡ None
+      → Order (scripts_of s) L (take count recs) es d.drained.lock (take count d.recs)
+      → FirstRecords s q m v count d.drained.lock d.recs (rows ++ (run (scripts_of s) L (take count recs) es).rows)
   drain_more {L} {recs} {rows} f d es is none order =
       let l = take count recs in
       let left = drain_lent s L l in
       let enough : count ≤ length recs = omega (arith, f.wide, f.few) in
       let all = is ∙ ap (drained_of count recs) (drain_by_value s count L recs enough) in
-      let no_number : left.refusal.number ≡ 0 = sym (ap (λ (x : DrainReturn). x.refusal.number) all) ∙ none in
+      let no_number : left.refusal.number ≡ 0 = none_number left.refusal (sym (ap (λ (x : DrainReturn). x.drained.refusal) all) ∙ none) in
       let size : length left.recs ≡ count = (accepted_drain s L l left refl no_number).size ∙ length-take-le count recs enough in
       let first = take_at left.recs (drop count recs) count size in
       record {
@@ -93,12 +94,12 @@ module _ (s : Lent) (q : Pred) (m v count : ℕ) where
 -- the rows of a later piece are those of the run into the rest of the trace list
 rest_rows : (s : Lent) (count : ℕ) (L : Lock) (recs : List Rec) (schedule : List ℕ) (budget used : ℕ) (trace : List ℕ) (r : RunReturn) (trace' : List ℕ)
     → r ≡ ran_of count recs (rest_of s count L recs schedule budget used trace) → trace' ≡ rest_trace s count L recs schedule budget used trace
-    → rows_in r.n (drop (row_words * used) trace') ≡ rows_in r.n (rest_of s count L recs schedule budget used trace).trace
+    → rows_in r.ran.n (drop (row_words * used) trace') ≡ rows_in r.ran.n (rest_of s count L recs schedule budget used trace).trace
 rest_rows s count L recs schedule budget used trace r trace' is trace_is =
     let left = rest_of s count L recs schedule budget used trace in
     rw trace_is
-    (later_rows r.n (row_words * used) trace left.trace
-    (λ past. ap (λ (x : RunReturn). x.n) is ∙ (no_room_lem s count L recs schedule budget used trace (omega (arith, past))).0))
+    (later_rows r.ran.n (row_words * used) trace left.trace
+    (λ past. ap (λ (x : RunReturn). x.ran.n) is ∙ (no_room_lem s count L recs schedule budget used trace (omega (arith, past))).0))
 
 pub first_records : {s : Lent} {q : Pred} {m v count : ℕ} {L : Lock} {recs : List Rec} {rows : List Row} → ReachedByValue s q m v count L recs rows
     → FirstRecords s q m v count L recs rows

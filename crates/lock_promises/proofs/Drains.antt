@@ -1,11 +1,14 @@
 -- A drain that is not refused, from any state: it ends every script by the drain order, and a run of its entries leaves the same.
+use Rattle.lock.proofs.Told.{none_some}
+use Rattle.lock_promises.specs.Given.{refusal_in}
+use Rattle.std.specs.Prelude.{None}
 use Prim.Native.Nat.{ℕ, ◌≤◌}
-use mathlib.Core.Path.{◌≡◌, refl, ap, ◌∙◌}
+use mathlib.Core.Path.{◌≡◌, refl, ap, ◌∙◌, sym}
 use mathlib.Core.List.{List}
 use native.Mathlib.Omega.{arith}
 use lib.ListN.{length, take, drop}
 use lib.Seq.{length-take-le, take_at, drop_at}
-use Rattle.machine.specs.Lists.{Lent, scripts_of}
+use Rattle.machine.specs.Lists.{Lent, scripts_of, some_refusal}
 use Rattle.machine.specs.Run.{run}
 use Rattle.machine.specs.Drain.{Order, drain, drain_refusal, DrainLeft, drain_lent}
 use Rattle.machine.specs.declared.Lock.{Lock}
@@ -20,7 +23,7 @@ use Rattle.lock.specs.declared.drain.DrainReturn.{DrainReturn}
 use Rattle.lock.proofs.Refusing.{none_refused, no_number, number_beside}
 use Rattle.lock.proofs.Draining.{none_of_run, drain_by_value}
 use Rattle.lock_promises.specs.Promises.{Over, OverByValue, AcceptedDrain, SafeDrain, AcceptedDrainByValue}
-use Rattle.lock_promises.proofs.Refusing.{drain_told, drain_told_by_value}
+use Rattle.lock_promises.proofs.Refusing.{drain_told, drain_told_by_value, in_some}
 
 pub drain_over : (s : Lent) (L : Lock) (l : List Rec) (left : DrainLeft) → left ≡ drain_lent s L l → drain_refusal s L l ≡ 0
     → Over s L l left.refusal left.n left.lock left.recs
@@ -71,22 +74,27 @@ over_by_value s count L recs enough d is none =
     let left = drain_lent s L (take count recs) in
     let over = drain_over s L (take count recs) left refl none in
     let size : length left.recs ≡ count = over.size ∙ length-take-le count recs enough in
-    rw (is, drain_by_value s count L recs enough, take_at left.recs (drop count recs) count size)
+    let same : refusal_in (some_refusal left.refusal) ≡ left.refusal =
+    rw (drain_told s L (take count recs) left refl) (in_some s (drain_refusal s L (take count recs)))
+    in
+    rw (is, drain_by_value s count L recs enough, same, take_at left.recs (drop count recs) count size)
     (over, drop_at left.recs (drop count recs) count size)
 
 -- the number of refusal that is given by value is machine's
 same_none : (s : Lent) (count : ℕ) (L : Lock) (recs : List Rec) → count ≤ length recs
-    → (d : DrainReturn) → d ≡ drained_of count recs (drain_of s count L recs) → d.refusal.number ≡ 0 → drain_refusal s L (take count recs) ≡ 0
+    → (d : DrainReturn) → d ≡ drained_of count recs (drain_of s count L recs) → d.drained.refusal ≡ None → drain_refusal s L (take count recs) ≡ 0
 same_none s count L recs enough d is none =
     let l = take count recs in
     let left = drain_lent s L l in
-    let same : d.refusal ≡ left.refusal = ap (λ (x : DrainReturn). x.refusal) is ∙ ap (λ (x : DrainLeft). x.refusal) (drain_by_value s count L recs enough) in
-    no_number s (drain_refusal s L l) d.refusal (same ∙ drain_told s L l left refl) none
+    let same : d.drained.refusal ≡ some_refusal left.refusal =
+    ap (λ (x : DrainReturn). x.drained.refusal) is ∙ ap (λ (x : DrainLeft). some_refusal x.refusal) (drain_by_value s count L recs enough)
+    in
+    none_some s (drain_refusal s L l) (sym (same ∙ ap some_refusal (drain_told s L l left refl)) ∙ none)
 
 pub accepted_drain_by_value : AcceptedDrainByValue
 accepted_drain_by_value s count L recs d is wide none =
     let l = take count recs in
-    let k = no_number s (drain_refusal_of s count L l) d.refusal (drain_told_by_value s count L recs d is) none in
+    let k = none_some s (drain_refusal_of s count L l) (sym (drain_told_by_value s count L recs d is) ∙ none) in
     let (same, ready) = none_refused s count L recs (none_of_run s count L l k) in
     let enough : count ≤ length recs = omega (arith, wide, ready.threads) in
     over_by_value s count L recs enough d is (same_none s count L recs enough d is none)

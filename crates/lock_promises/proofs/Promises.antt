@@ -1,4 +1,5 @@
 -- The three demands, of what the functions of `lock` return.
+use Rattle.lock.proofs.Told.{is_none, told_some}
 use Prim.Native.Nat.{ℕ, ◌*◌, ◌≤◌}
 use mathlib.Core.Path.{◌≡◌, refl, sym, ap, ◌∙◌}
 use mathlib.Core.Logic.{◌≢◌}
@@ -20,7 +21,7 @@ use Rattle.machine.proofs.Exclusive.{sound_is_safe}
 use Rattle.machine.proofs.Runs.{always_sound}
 use Rattle.machine.proofs.RunRule.{run_rule}
 use Rattle.machine.proofs.Value.{demand_2c}
-use Rattle.lock.specs.ByValue.{put_back, setup_of}
+use Rattle.lock.specs.ByValue.{put_back, setup_of, drain_refusal_of}
 use Rattle.lock.specs.Run.{rest_of}
 use Rattle.lock.specs.declared.drain.DrainReturn.{DrainReturn}
 use Rattle.lock.proofs.Refusing.{number_beside}
@@ -29,7 +30,7 @@ use Rattle.lock.proofs.Draining.{left_alone}
 use Rattle.lock_promises.specs.Promises.{RefusedSetup, RefusedRun, RefusedRest, RefusedDrain, RefusedEntry, RunCounts, Demand2, Demand2ByValue, RunsGoOn, RunsGoOnByValue, RestGoesOnByValue, Kept, Demand3, Demand3ByValue, AfterDrain, AfterDrainByValue}
 use Rattle.lock_promises.specs.Reached.{Reached, ReachedByValue}
 use Rattle.lock_promises.proofs.Drains.{drain_over, over_by_value}
-use Rattle.lock_promises.proofs.Refusing.{drain_told_by_value}
+use Rattle.lock_promises.proofs.Refusing.{drain_told_by_value, number_none, none_in}
 use Rattle.lock_promises.proofs.Reached.{Comes, admits, runs_on, drains, comes}
 use Rattle.lock_promises.proofs.ByValue.{first_records}
 use Rattle.lock_promises.proofs.RunByValue.{run_refused, run_is_run_by_value, entry_refused}
@@ -61,8 +62,10 @@ refused_rest s count L recs schedule budget used trace r trace' is trace_is some
 
 pub refused_drain : RefusedDrain
 refused_drain s count L recs d is some =
-    let whole = is ∙ sym (left_alone s count L recs d.refusal (drain_told_by_value s count L recs d is) some) in
-    (ap (λ (x : DrainReturn). x.n) whole, ap (λ (x : DrainReturn). x.lock) whole, ap (λ (x : DrainReturn). x.recs) whole)
+    let k = drain_refusal_of s count L (take count recs) in
+    let more : k ≢ 0 = λ z. some (drain_told_by_value s count L recs d is ∙ is_none s k z) in
+    let whole = is ∙ sym (left_alone s count L recs (beside s k) (told_some s k more)) in
+    (ap (λ (x : DrainReturn). x.drained.n) whole, ap (λ (x : DrainReturn). x.drained.lock) whole, ap (λ (x : DrainReturn). x.recs) whole)
 
 pub refused_entry : RefusedEntry
 refused_entry = entry_refused
@@ -96,7 +99,7 @@ pub runs_go_on_by_value : RunsGoOnByValue
 runs_go_on_by_value s q m v count L recs rows reached schedule budget trace r is =
     let f = first_records reached in
     rw (is, run_by_value s count L recs schedule budget trace f.few f.wide)
-    (runs_go_on s q m v L (take count recs) rows f.reached schedule budget trace _ refl)
+    (number_none _ (runs_go_on s q m v L (take count recs) rows f.reached schedule budget trace _ refl))
 
 pub rest_goes_on_by_value : RestGoesOnByValue
 rest_goes_on_by_value s q m v count L recs rows reached schedule budget used trace =
@@ -119,5 +122,6 @@ after_drain s q m v L l rows reached left is over =
 
 pub after_drain_by_value : AfterDrainByValue
 after_drain_by_value s q m v count L recs rows reached d is over =
-    let there = ReachedByValue.drained reached d over.entries is over.accepted over.order in
-    (demand2_by_value s q m v count d.lock d.recs _ there, runs_go_on_by_value s q m v count d.lock d.recs _ there)
+    let none = none_in s (drain_refusal_of s count L (take count recs)) d.drained.refusal (drain_told_by_value s count L recs d is) over.accepted in
+    let there = ReachedByValue.drained reached d over.entries is none over.order in
+    (demand2_by_value s q m v count d.drained.lock d.recs _ there, runs_go_on_by_value s q m v count d.drained.lock d.recs _ there)

@@ -1,5 +1,6 @@
 -- What a run with records by value leaves, refused or not, and a run of one entry that is refused: of all that the contract of run
 -- allows.
+use Rattle.std.specs.Prelude.{None}
 use Prim.Native.Nat.{ℕ, ◌*◌, ◌≤◌}
 use mathlib.Core.Path.{◌≡◌, refl, sym, ap, ◌∙◌}
 use mathlib.Core.Logic.{◌≢◌}
@@ -12,7 +13,7 @@ use lib.Seq.{length-take-le, take_at, drop_at}
 use package.borrow.Author.Tests.{eqb-true, eqb-false, ne_eqb}
 use Rattle.machine.specs.Names.{no_access, most_threads, row_words}
 use Rattle.machine.specs.Words.{bit}
-use Rattle.machine.specs.Lists.{Lent, scripts_of, beside}
+use Rattle.machine.specs.Lists.{Lent, scripts_of, beside, some_refusal}
 use Rattle.machine.specs.Step.{Scripts, entry_refusal, row_of, step}
 use Rattle.machine.specs.Run.{Ran as Machine, run, accepted, words_of, entries, made_run}
 use Rattle.machine.specs.declared.Lock.{Lock}
@@ -23,7 +24,8 @@ use Rattle.machine.proofs.RunRule.{run_length}
 use Rattle.lock.specs.ByValue.{run_refusal_of, run_of}
 use Rattle.lock.specs.Run.{ran_of, rest_of, Ready}
 use Rattle.lock.specs.declared.run.RunReturn.{RunReturn}
-use Rattle.lock.proofs.Refusing.{none_refused, no_number, left}
+use Rattle.lock.proofs.Told.{told_some, is_none, none_some}
+use Rattle.lock.proofs.Refusing.{none_refused, left}
 use Rattle.lock_promises.specs.Runs.{IsRun, RunIsRunByValue, RestIsRunByValue}
 use Rattle.lock_promises.proofs.Rows.{handled, row_each, rest_read_back}
 use Rattle.lock_promises.proofs.Runs.{made_is_run}
@@ -42,31 +44,32 @@ module _
   abbrev after : Machine
   after = run (scripts_of s) L (take count recs) (handled schedule budget trace)
 
-  refusal_is : r.refusal ≡ beside s k
+  refusal_is : r.ran.refusal ≡ some_refusal (beside s k)
   refusal_is = run_told_by_value s count L recs schedule budget trace r is
 
-  pub run_refused : r.refusal.number ≢ 0 → (r.n ≡ 0) × (r.done ≡ 0) × (r.lock ≡ L) × (r.recs ≡ recs) × (trace' ≡ trace)
+  pub run_refused : r.ran.refusal ≢ None → (r.ran.n ≡ 0) × (r.ran.done ≡ 0) × (r.ran.lock ≡ L) × (r.recs ≡ recs) × (trace' ≡ trace)
   run_refused some =
-      let (same, list) = left s count L recs schedule budget trace r.refusal refusal_is some in
+      let more : k ≢ 0 = λ z. some (refusal_is ∙ is_none s k z) in
+      let (same, list) = left s count L recs schedule budget trace (beside s k) (told_some s k more) in
       let all = is ∙ sym same in (
-        ap (λ (x : RunReturn). x.n) all,
-        ap (λ (x : RunReturn). x.done) all,
-        ap (λ (x : RunReturn). x.lock) all,
+        ap (λ (x : RunReturn). x.ran.n) all,
+        ap (λ (x : RunReturn). x.ran.done) all,
+        ap (λ (x : RunReturn). x.ran.lock) all,
         ap (λ (x : RunReturn). x.recs) all,
         trace_is ∙ sym list,
       )
 
-  module _ (none : r.refusal.number ≡ 0) where
+  module _ (none : r.ran.refusal ≡ None) where
     pub run_made : (r ≡ ran_of count recs (made_run (beside s 0) n trace after)) × (trace' ≡ words_of after.rows ++ drop (row_words * n) trace)
     unfolding run_of
-    run_made = let zero = no_number s k r.refusal refusal_is none in (is ∙ rw zero, trace_is ∙ rw zero)
+    run_made = let zero = none_some s k (sym refusal_is ∙ none) in (is ∙ rw zero, trace_is ∙ rw zero)
 
     -- the count is the number of threads, and the state is sound
     pub run_ready : (count ≡ length s.lens) × Ready s L recs
-    run_ready = none_refused s count L recs (no_number s k r.refusal refusal_is none)
+    run_ready = none_refused s count L recs (none_some s k (sym refusal_is ∙ none))
 
     pub run_counted : length recs ≡ most_threads
-        → IsRun s L (take count recs) schedule budget trace r.n r.done r.lock (take count r.recs) trace' × (drop count r.recs ≡ drop count recs)
+        → IsRun s L (take count recs) schedule budget trace r.ran.n r.ran.done r.ran.lock (take count r.recs) trace' × (drop count r.recs ≡ drop count recs)
     run_counted wide =
         let (all, list) = run_made in
         let (same, ready) = run_ready in
@@ -116,7 +119,7 @@ answer_told S L l i rest = rw (run_one S L l i).2 (row_says S L l i).0
 module _
     (s : Lent) (count : ℕ) (L : Lock) (recs : List Rec) (i budget : ℕ) (trace : List ℕ) (r : RunReturn) (trace' : List ℕ)
     (is : r ≡ ran_of count recs (run_of s count L recs (i ∷ []) budget trace)) (trace_is : trace' ≡ (run_of s count L recs (i ∷ []) budget trace).trace)
-    (one : r.n ≡ 1) where
+    (one : r.ran.n ≡ 1) where
   abbrev l : List Rec
   l = take count recs
 
@@ -124,26 +127,34 @@ module _
   S = scripts_of s
 
   -- a refused run handles none
-  pub not_refused : r.refusal.number ≡ 0
-  not_refused = go (eqb r.refusal.number 0) refl
+  pub not_refused : r.ran.refusal ≡ None
+  not_refused = go (eqb k 0) refl
     where
-      go : (b : Bool) → eqb r.refusal.number 0 ≡ b → r.refusal.number ≡ 0
-      go true e = eqb-true _ 0 e
-      go false e = absurd (omega (arith, (run_refused s count L recs (i ∷ []) budget trace r trace' is trace_is (eqb-false _ 0 e)).0))
+      k : ℕ
+      k = run_refusal_of s count L l
+
+      told : r.ran.refusal ≡ some_refusal (beside s k)
+      told = run_told_by_value s count L recs (i ∷ []) budget trace r is
+
+      go : (b : Bool) → eqb k 0 ≡ b → r.ran.refusal ≡ None
+      go true e = told ∙ is_none s k (eqb-true k 0 e)
+      go false e =
+          let some : r.ran.refusal ≢ None = λ z. eqb-false k 0 e (none_some s k (sym told ∙ z)) in
+          absurd (omega (arith, (run_refused s count L recs (i ∷ []) budget trace r trace' is trace_is some).0))
 
   entry_made : (r ≡ ran_of count recs (made_run (beside s 0) 1 trace (run S L l (i ∷ [])))) × (trace' ≡ words_of (run S L l (i ∷ [])).rows ++ drop row_words trace)
   entry_made =
       let (all, list) = run_made s count L recs (i ∷ []) budget trace r trace' is trace_is not_refused in
-      let n : entries budget (i ∷ []) trace ≡ 1 = sym (ap (λ (x : RunReturn). x.n) all) ∙ one in
+      let n : entries budget (i ∷ []) trace ≡ 1 = sym (ap (λ (x : RunReturn). x.ran.n) all) ∙ one in
       (rw n at all, rw n at list)
 
   pub entry_answered : get_or trace' 2 0 ≡ entry_refusal S L l i
   entry_answered = ap (λ (t : List ℕ). get_or t 2 0) entry_made.1 ∙ answer_told S L l i (drop row_words trace)
 
   pub entry_refused : get_or trace' 2 0 ≢ 0
-      → (r.lock ≡ L)
+      → (r.ran.lock ≡ L)
       × (r.recs ≡ recs)
-      × (r.done ≡ 0)
+      × (r.ran.done ≡ 0)
       × (take row_words trace' ≡ i ∷ 0 ∷ get_or trace' 2 0 ∷ 0 ∷ bit L.exc ∷ L.rc.0 ∷ [])
   unfolding words_of accepted
   entry_refused some =

@@ -1,6 +1,6 @@
 -- A run of one entry is machine's step, its answer is exact, and where it is 0 it makes the source's access, as each entry of any run
 -- does: said of what the functions of `lock` return.
-use Rattle.std.specs.Prelude.{ℕ, suc, ◌*◌, ◌≤◌, ◌<◌, ◌≡◌, ◌≢◌, ◌⊎◌, true, List, [], ◌∷◌, ◌++◌, eqb, length, get_or, take, drop}
+use Rattle.std.specs.Prelude.{ℕ, suc, ◌*◌, ◌≤◌, ◌<◌, ◌≡◌, ◌≢◌, ◌⊎◌, true, List, [], ◌∷◌, ◌++◌, eqb, length, get_or, take, drop, None}
 use Rattle.cell.specs.Pred.{permits}
 use Rattle.machine.specs.Names.{loads_rc, exchanges_rc, loads_exc, gives_back, borrows_cell, releases_rc, exchanges_exc, waits_rc, takes_cell, puts_cell, stores_exc, drops_handle, fails_rc, fails_exc, most_threads, row_words}
 use Rattle.machine.specs.Words.{bit}
@@ -35,11 +35,11 @@ abbrev pub OneEntryByValue : Type 0
 OneEntryByValue =
     (s : Lent) (count : ℕ) (L : Lock) (recs : List Rec) (i budget : ℕ) (trace : List ℕ) (r : RunReturn) (trace' : List ℕ)
     → ReturnedByRun s count L recs (i ∷ []) budget trace r → LeftByRun s count L recs (i ∷ []) budget trace trace'
-    → r.refusal.number ≡ 0 → 1 ≤ budget → row_words ≤ length trace
+    → r.ran.refusal ≡ None → 1 ≤ budget → row_words ≤ length trace
     → let x = step (scripts_of s) L (take count recs) i in
-    (r.n ≡ 1)
-    × (r.done ≡ bit (eqb x.row.answer 0))
-    × (r.lock ≡ x.lock)
+    (r.ran.n ≡ 1)
+    × (r.ran.done ≡ bit (eqb x.row.answer 0))
+    × (r.ran.lock ≡ x.lock)
     × (r.recs ≡ put_back count recs x.recs)
     × (trace' ≡ words_of (x.row ∷ []) ++ drop row_words trace)
 
@@ -89,8 +89,8 @@ abbrev pub AcceptedEntryByValue : Type 0
 AcceptedEntryByValue =
     (s : Lent) (count : ℕ) (L : Lock) (recs : List Rec) (i budget : ℕ) (trace : List ℕ) (r : RunReturn) (trace' : List ℕ)
     → ReturnedByRun s count L recs (i ∷ []) budget trace r → LeftByRun s count L recs (i ∷ []) budget trace trace'
-    → length recs ≡ most_threads → r.n ≡ 1 → get_or trace' 2 0 ≡ 0
-    → Entered (scripts_of s) L (take count recs) i r.lock (take count r.recs) (row_in trace') × (drop count r.recs ≡ drop count recs)
+    → length recs ≡ most_threads → r.ran.n ≡ 1 → get_or trace' 2 0 ≡ 0
+    → Entered (scripts_of s) L (take count recs) i r.ran.lock (take count r.recs) (row_in trace') × (drop count r.recs ≡ drop count recs)
 
 -- each entry of any run, by whichever function and from whatever state, if its row's answer is 0: before it is what the first k entries
 -- leave, after it what one more leaves
@@ -116,5 +116,5 @@ abbrev pub EntryAnswerByValue : Type 0
 EntryAnswerByValue =
     (s : Lent) (count : ℕ) (L : Lock) (recs : List Rec) (i budget : ℕ) (trace : List ℕ) (r : RunReturn) (trace' : List ℕ)
     → ReturnedByRun s count L recs (i ∷ []) budget trace r → LeftByRun s count L recs (i ∷ []) budget trace trace'
-    → r.n ≡ 1
+    → r.ran.n ≡ 1
     → Exact (AtEntry (scripts_of s) L (take count recs) i) (get_or trace' 2 0)

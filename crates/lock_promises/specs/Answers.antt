@@ -20,7 +20,7 @@ use Rattle.std.specs.Prelude.{Err, Ok, Result}
 use Rattle.lock.specs.declared.run.RunReturn.{RunReturn}
 use Rattle.lock.specs.declared.setup.Begun.{Begun}
 use Rattle.lock.specs.declared.drain.DrainReturn.{DrainReturn}
-use Rattle.lock_promises.specs.Given.{ReturnedBySetup, ReturnedByRun, ReturnedByRest, ReturnedByDrain}
+use Rattle.lock_promises.specs.Given.{ReturnedBySetup, ReturnedByRun, ReturnedByRest, ReturnedByDrain, refusal_in}
 
 -- the refusal's number is exact, and beside it stands what belongs there: machine's `FirstLong` and `FirstWrong` say what
 abbrev pub ExactRefusal : (ℕ → Type 0) → Lent → Refusal → Type 0
@@ -84,14 +84,14 @@ abbrev pub RunAnswerByValue : Type 0
 RunAnswerByValue =
     (s : Lent) (count : ℕ) (L : Lock) (recs : List Rec) (schedule : List ℕ) (budget : ℕ) (trace : List ℕ) (r : RunReturn)
     → ReturnedByRun s count L recs schedule budget trace r
-    → ExactRefusal (AtRunOf s count L (take count recs)) s r.refusal
+    → ExactRefusal (AtRunOf s count L (take count recs)) s (refusal_in r.ran.refusal)
 
 -- a later piece, by run_rest, is refused as a run is
 abbrev pub RestAnswerByValue : Type 0
 RestAnswerByValue =
     (s : Lent) (count : ℕ) (L : Lock) (recs : List Rec) (schedule : List ℕ) (budget used : ℕ) (trace : List ℕ) (r : RunReturn)
     → ReturnedByRest s count L recs schedule budget used trace r
-    → ExactRefusal (AtRunOf s count L (take count recs)) s r.refusal
+    → ExactRefusal (AtRunOf s count L (take count recs)) s (refusal_in r.ran.refusal)
 
 -- ---- drain
 abbrev pub DrainAnswer : Type 0
@@ -104,4 +104,4 @@ pub data AtDrainOf (s : Lent) (count : ℕ) (L : Lock) (l : List Rec) : ℕ → 
 abbrev pub DrainAnswerByValue : Type 0
 DrainAnswerByValue =
     (s : Lent) (count : ℕ) (L : Lock) (recs : List Rec) (d : DrainReturn) → ReturnedByDrain s count L recs d
-    → ExactRefusal (AtDrainOf s count L (take count recs)) s d.refusal
+    → ExactRefusal (AtDrainOf s count L (take count recs)) s (refusal_in d.drained.refusal)

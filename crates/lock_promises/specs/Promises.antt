@@ -1,5 +1,5 @@
 -- The three demands, said of what the functions of `lock` return, so that a user of them needs no definition's text.
-use Rattle.std.specs.Prelude.{ℕ, ◌*◌, ◌<◌, ◌≤◌, min, ◌/◌, ◌≡◌, ◌≢◌, true, false, List, [], ◌∷◌, ◌++◌, reverse, length, get_or, take, drop}
+use Rattle.std.specs.Prelude.{ℕ, ◌*◌, ◌<◌, ◌≤◌, min, ◌/◌, ◌≡◌, ◌≢◌, true, false, List, [], ◌∷◌, ◌++◌, reverse, length, get_or, take, drop, None}
 use Rattle.cell.specs.Value.{is_full}
 use Rattle.cell.specs.declared.pred.Pred.{Pred}
 use Rattle.machine.specs.Names.{most_threads, row_words}
@@ -23,7 +23,7 @@ use Rattle.std.specs.Prelude.{Err}
 use Rattle.lock.specs.declared.run.RunReturn.{RunReturn}
 use Rattle.lock.specs.declared.setup.Begun.{Begun}
 use Rattle.lock.specs.declared.drain.DrainReturn.{DrainReturn}
-use Rattle.lock_promises.specs.Given.{ReturnedBySetup, ReturnedByRun, LeftByRun, ReturnedByRest, LeftByRest, ReturnedByDrain}
+use Rattle.lock_promises.specs.Given.{ReturnedBySetup, ReturnedByRun, LeftByRun, ReturnedByRest, LeftByRest, ReturnedByDrain, refusal_in}
 use Rattle.lock_promises.specs.Reached.{Reached, ReachedByValue}
 
 -- ---- demand 1: a refused call changes nothing that is lent
@@ -36,21 +36,21 @@ abbrev pub RefusedRun : Type 0
 RefusedRun =
     (s : Lent) (count : ℕ) (L : Lock) (recs : List Rec) (schedule : List ℕ) (budget : ℕ) (trace : List ℕ) (r : RunReturn) (trace' : List ℕ)
     → ReturnedByRun s count L recs schedule budget trace r → LeftByRun s count L recs schedule budget trace trace'
-    → r.refusal.number ≢ 0
-    → (r.n ≡ 0) × (r.done ≡ 0) × (r.lock ≡ L) × (r.recs ≡ recs) × (trace' ≡ trace)
+    → r.ran.refusal ≢ None
+    → (r.ran.n ≡ 0) × (r.ran.done ≡ 0) × (r.ran.lock ≡ L) × (r.recs ≡ recs) × (trace' ≡ trace)
 
 abbrev pub RefusedRest : Type 0
 RefusedRest =
     (s : Lent) (count : ℕ) (L : Lock) (recs : List Rec) (schedule : List ℕ) (budget used : ℕ) (trace : List ℕ) (r : RunReturn) (trace' : List ℕ)
     → ReturnedByRest s count L recs schedule budget used trace r → LeftByRest s count L recs schedule budget used trace trace'
-    → r.refusal.number ≢ 0
-    → (r.n ≡ 0) × (r.done ≡ 0) × (r.lock ≡ L) × (r.recs ≡ recs) × (trace' ≡ trace)
+    → r.ran.refusal ≢ None
+    → (r.ran.n ≡ 0) × (r.ran.done ≡ 0) × (r.ran.lock ≡ L) × (r.recs ≡ recs) × (trace' ≡ trace)
 
 abbrev pub RefusedDrain : Type 0
 RefusedDrain =
     (s : Lent) (count : ℕ) (L : Lock) (recs : List Rec) (d : DrainReturn) → ReturnedByDrain s count L recs d
-    → d.refusal.number ≢ 0
-    → (d.n ≡ 0) × (d.lock ≡ L) × (d.recs ≡ recs)
+    → d.drained.refusal ≢ None
+    → (d.drained.n ≡ 0) × (d.drained.lock ≡ L) × (d.recs ≡ recs)
 
 -- a run of one entry whose row has an answer other than 0 changes neither the lock nor a record; its row has the thread as given, access 0,
 -- got 0, and the flag and the count as they stand
@@ -58,10 +58,10 @@ abbrev pub RefusedEntry : Type 0
 RefusedEntry =
     (s : Lent) (count : ℕ) (L : Lock) (recs : List Rec) (i budget : ℕ) (trace : List ℕ) (r : RunReturn) (trace' : List ℕ)
     → ReturnedByRun s count L recs (i ∷ []) budget trace r → LeftByRun s count L recs (i ∷ []) budget trace trace'
-    → r.n ≡ 1 → get_or trace' 2 0 ≢ 0
-    → (r.lock ≡ L)
+    → r.ran.n ≡ 1 → get_or trace' 2 0 ≢ 0
+    → (r.ran.lock ≡ L)
     × (r.recs ≡ recs)
-    × (r.done ≡ 0)
+    × (r.ran.done ≡ 0)
     × (take row_words trace' ≡ i ∷ 0 ∷ get_or trace' 2 0 ∷ 0 ∷ bit L.exc ∷ L.rc.0 ∷ [])
 
 -- ---- run's rule, of the results: n, the number of answer-0 rows, and the other words
@@ -69,10 +69,10 @@ abbrev pub RunCounts : Type 0
 RunCounts =
     (s : Lent) (count : ℕ) (L : Lock) (recs : List Rec) (schedule : List ℕ) (budget : ℕ) (trace : List ℕ) (r : RunReturn) (trace' : List ℕ)
     → ReturnedByRun s count L recs schedule budget trace r → LeftByRun s count L recs schedule budget trace trace'
-    → length recs ≡ most_threads → r.refusal.number ≡ 0
-    → (r.n ≡ min budget (min (length schedule) (length trace / row_words)))
-    × (r.done ≡ zero_answers r.n trace')
-    × (drop (row_words * r.n) trace' ≡ drop (row_words * r.n) trace)
+    → length recs ≡ most_threads → r.ran.refusal ≡ None
+    → (r.ran.n ≡ min budget (min (length schedule) (length trace / row_words)))
+    × (r.ran.done ≡ zero_answers r.ran.n trace')
+    × (drop (row_words * r.ran.n) trace' ≡ drop (row_words * r.ran.n) trace)
     × (drop count r.recs ≡ drop count recs)
 
 -- ---- demand 2: what is true of every reached state l with the rows so far, v being the first value
@@ -102,13 +102,13 @@ abbrev pub RunsGoOnByValue : Type 0
 RunsGoOnByValue =
     (s : Lent) (q : Pred) (m v count : ℕ) (L : Lock) (recs : List Rec) (rows : List Row) → ReachedByValue s q m v count L recs rows
     → (schedule : List ℕ) (budget : ℕ) (trace : List ℕ) (r : RunReturn) → ReturnedByRun s count L recs schedule budget trace r
-    → r.refusal.number ≡ 0
+    → r.ran.refusal ≡ None
 
 abbrev pub RestGoesOnByValue : Type 0
 RestGoesOnByValue =
     (s : Lent) (q : Pred) (m v count : ℕ) (L : Lock) (recs : List Rec) (rows : List Row) → ReachedByValue s q m v count L recs rows
     → (schedule : List ℕ) (budget used : ℕ) (trace : List ℕ) (r : RunReturn) → ReturnedByRest s count L recs schedule budget used trace r
-    → r.refusal.number ≡ 0
+    → r.ran.refusal ≡ None
 
 -- ---- demand 3: what a drain from the state L, l leaves
 pub record Over (s : Lent) (L : Lock) (l : List Rec) (why : Refusal) (n : ℕ) (L' : Lock) (l' : List Rec) : Type 0 where
@@ -135,7 +135,7 @@ pub record Over (s : Lent) (L : Lock) (l : List Rec) (why : Refusal) (n : ℕ) (
 -- of the first `count` records of the array; the others stay
 abbrev pub OverByValue : Lent → ℕ → Lock → List Rec → DrainReturn → Type 0
 OverByValue s count L recs d =
-    Over s L (take count recs) d.refusal d.n d.lock (take count d.recs) × (drop count d.recs ≡ drop count recs)
+    Over s L (take count recs) (refusal_in d.drained.refusal) d.drained.n d.drained.lock (take count d.recs) × (drop count d.recs ≡ drop count recs)
 
 -- whatever the state, a drain that is not refused leaves that
 abbrev pub AcceptedDrain : Type 0
@@ -146,7 +146,7 @@ AcceptedDrain =
 abbrev pub AcceptedDrainByValue : Type 0
 AcceptedDrainByValue =
     (s : Lent) (count : ℕ) (L : Lock) (recs : List Rec) (d : DrainReturn) → ReturnedByDrain s count L recs d → length recs ≡ most_threads
-    → d.refusal.number ≡ 0
+    → d.drained.refusal ≡ None
     → OverByValue s count L recs d
 
 -- then 2a and 2b hold of the state that was lent, after every entry, and of what is left
@@ -183,7 +183,7 @@ AfterDrainByValue =
     (s : Lent) (q : Pred) (m v count : ℕ) (L : Lock) (recs : List Rec) (rows : List Row) → ReachedByValue s q m v count L recs rows
     → (d : DrainReturn) → ReturnedByDrain s count L recs d
     → let l = take count recs in
-    (over : Over s L l d.refusal d.n d.lock (take count d.recs))
-    → Kept s v d.lock (take count d.recs) (rows ++ (run (scripts_of s) L l over.entries).rows)
-    × ((schedule : List ℕ) (budget : ℕ) (trace : List ℕ) (r : RunReturn) → ReturnedByRun s count d.lock d.recs schedule budget trace r
-    → r.refusal.number ≡ 0)
+    (over : Over s L l (refusal_in d.drained.refusal) d.drained.n d.drained.lock (take count d.recs))
+    → Kept s v d.drained.lock (take count d.recs) (rows ++ (run (scripts_of s) L l over.entries).rows)
+    × ((schedule : List ℕ) (budget : ℕ) (trace : List ℕ) (r : RunReturn) → ReturnedByRun s count d.drained.lock d.recs schedule budget trace r
+    → r.ran.refusal ≡ None)

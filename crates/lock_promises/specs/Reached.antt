@@ -1,7 +1,7 @@
 -- What a user's calls reach: a setup that makes a lock, then any runs and drains with the same scripts lent, each run into any trace
 -- list; and the rows of these, in order. A run has written its rows; a drain writes none, and its rows are those of machine's run of its
 -- entries. Over a list of records, and with records by value.
-use Rattle.std.specs.Prelude.{ℕ, zero, suc, ◌*◌, ◌≡◌, List, [], ◌∷◌, ◌++◌, length, get_or, take, drop}
+use Rattle.std.specs.Prelude.{ℕ, zero, suc, ◌*◌, ◌≡◌, List, [], ◌∷◌, ◌++◌, length, get_or, take, drop, None}
 use Rattle.cell.specs.declared.pred.Pred.{Pred}
 use Rattle.machine.specs.Names.{most_threads, row_words}
 use Rattle.machine.specs.Lists.{Lent, scripts_of}
@@ -53,13 +53,13 @@ pub data ReachedByValue (s : Lent) (q : Pred) (m v count : ℕ) : Lock → List 
   ran : {L : Lock} {recs : List Rec} {rows : List Row} → ReachedByValue s q m v count L recs rows
       → (schedule : List ℕ) (budget : ℕ) (trace : List ℕ) (r : RunReturn) (trace' : List ℕ)
       → ReturnedByRun s count L recs schedule budget trace r → LeftByRun s count L recs schedule budget trace trace'
-      → ReachedByValue s q m v count r.lock r.recs (rows ++ rows_in r.n trace')
+      → ReachedByValue s q m v count r.ran.lock r.recs (rows ++ rows_in r.ran.n trace')
   -- a later piece, by run_rest: its rows come after the first `used` ones of the trace list
   ran_on : {L : Lock} {recs : List Rec} {rows : List Row} → ReachedByValue s q m v count L recs rows
       → (schedule : List ℕ) (budget used : ℕ) (trace : List ℕ) (r : RunReturn) (trace' : List ℕ)
       → ReturnedByRest s count L recs schedule budget used trace r → LeftByRest s count L recs schedule budget used trace trace'
-      → ReachedByValue s q m v count r.lock r.recs (rows ++ rows_in r.n (drop (row_words * used) trace'))
+      → ReachedByValue s q m v count r.ran.lock r.recs (rows ++ rows_in r.ran.n (drop (row_words * used) trace'))
   drained : {L : Lock} {recs : List Rec} {rows : List Row} → ReachedByValue s q m v count L recs rows → (d : DrainReturn) (es : List ℕ)
-      → ReturnedByDrain s count L recs d → d.refusal.number ≡ 0
-      → Order (scripts_of s) L (take count recs) es d.lock (take count d.recs)
-      → ReachedByValue s q m v count d.lock d.recs (rows ++ (run (scripts_of s) L (take count recs) es).rows)
+      → ReturnedByDrain s count L recs d → d.drained.refusal ≡ None
+      → Order (scripts_of s) L (take count recs) es d.drained.lock (take count d.recs)
+      → ReachedByValue s q m v count d.drained.lock d.recs (rows ++ (run (scripts_of s) L (take count recs) es).rows)

@@ -1,6 +1,6 @@
 -- A run that is not refused is machine's run of the first entries of its schedule, whatever the state: said of what the functions of
 -- `lock` return, and over a list of records.
-use Rattle.std.specs.Prelude.{ℕ, ◌*◌, ◌/◌, ◌<◌, min, ◌≡◌, List, length, get_or, take, drop}
+use Rattle.std.specs.Prelude.{ℕ, ◌*◌, ◌/◌, ◌<◌, min, ◌≡◌, List, length, get_or, take, drop, None}
 use Rattle.machine.specs.Names.{most_threads, row_words}
 use Rattle.machine.specs.Lists.{Lent, scripts_of}
 use Rattle.machine.specs.Step.{step}
@@ -39,8 +39,8 @@ abbrev pub RunIsRunByValue : Type 0
 RunIsRunByValue =
     (s : Lent) (count : ℕ) (L : Lock) (recs : List Rec) (schedule : List ℕ) (budget : ℕ) (trace : List ℕ) (r : RunReturn) (trace' : List ℕ)
     → ReturnedByRun s count L recs schedule budget trace r → LeftByRun s count L recs schedule budget trace trace'
-    → length recs ≡ most_threads → r.refusal.number ≡ 0
-    → IsRun s L (take count recs) schedule budget trace r.n r.done r.lock (take count r.recs) trace'
+    → length recs ≡ most_threads → r.ran.refusal ≡ None
+    → IsRun s L (take count recs) schedule budget trace r.ran.n r.ran.done r.ran.lock (take count r.recs) trace'
     × (drop count r.recs ≡ drop count recs)
 
 -- a later piece, by run_rest: it is a run into what comes after the first `used` rows of the trace list, and these stay
@@ -48,9 +48,9 @@ abbrev pub RestIsRunByValue : Type 0
 RestIsRunByValue =
     (s : Lent) (count : ℕ) (L : Lock) (recs : List Rec) (schedule : List ℕ) (budget used : ℕ) (trace : List ℕ) (r : RunReturn) (trace' : List ℕ)
     → ReturnedByRest s count L recs schedule budget used trace r → LeftByRest s count L recs schedule budget used trace trace'
-    → length recs ≡ most_threads → r.refusal.number ≡ 0
+    → length recs ≡ most_threads → r.ran.refusal ≡ None
     → let k = row_words * used in
-    IsRun s L (take count recs) schedule budget (drop k trace) r.n r.done r.lock (take count r.recs) (drop k trace')
+    IsRun s L (take count recs) schedule budget (drop k trace) r.ran.n r.ran.done r.ran.lock (take count r.recs) (drop k trace')
     × (take k trace' ≡ take k trace)
     × (drop count r.recs ≡ drop count recs)
 

@@ -1,6 +1,6 @@
 -- `until` meets its contract. The loop's invariant: a run from there is not refused, and with the entries that are left state and list come
 -- to what the whole turn makes of them. Assumes nothing.
-use Prim.Native.Nat.{ℕ, ◌+◌, ◌-◌, ◌<◌, ◌≤◌}
+use Prim.Native.Nat.{ℕ, ◌+◌, ◌-◌, ◌<◌}
 use mathlib.Core.Path.{◌≡◌, ap, sym, subst, ◌∙◌}
 use native.Mathlib.Omega.{arith}
 use lib.ListN.{take, set, length-set}

@@ -1,5 +1,5 @@
 -- `cost` meets its contract. The loop's invariant: what is summed up, and the cost from here on, are the whole cost. Assumes nothing.
-use Prim.Native.Nat.{◌+◌, ◌-◌, ◌≤◌}
+use Prim.Native.Nat.{◌+◌, ◌≤◌}
 use mathlib.Core.Path.{◌≡◌}
 use Rattle.machine.specs.Tidy.{cost}
 use Rattle.lock_tidy.specs.Rests.{words_at}

@@ -1,5 +1,4 @@
 -- `run_ready` meets its contract. The loop's invariant: lock, records, counts and trace list are those after the first k entries.
-use Prim.Native.Nat.{◌-◌}
 use Rattle.machine.specs.Lists.{lent}
 use Rattle.lock.proofs.Running.{Going}
 use Rattle.lock.proofs.run.run_ready.Given as goal

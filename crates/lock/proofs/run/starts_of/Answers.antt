@@ -1,6 +1,6 @@
 -- `starts_of` meets its contract. The loop's invariant: the sum is the start of thread t, cut, and the starts before it are written.
 use Prim.Native.Nat.{min}
-use mathlib.Core.Path.{refl, ◌∙◌}
+use mathlib.Core.Path.{◌∙◌}
 use native.Mathlib.Omega.{arith}
 use lib.ListN.{length-set}
 use Rattle.machine.specs.Lists.{total, start}

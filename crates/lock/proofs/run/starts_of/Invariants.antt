@@ -1,5 +1,5 @@
 -- `starts_of` meets its contract. The loop's invariant: the sum is the start of thread t, cut, and the starts before it are written.
-use Prim.Native.Nat.{ℕ, ◌-◌, ◌<◌, ◌≤◌, min}
+use Prim.Native.Nat.{ℕ, ◌<◌, min}
 use mathlib.Core.Path.{◌≡◌}
 use lib.ListN.{length, get_or}
 use Rattle.machine.specs.Lists.{start}
