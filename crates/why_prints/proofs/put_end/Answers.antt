@@ -20,14 +20,14 @@ returns-then-has_room-clause-value c = (told (sym c.has_room.ensures ∙ c.if-ha
 pub returns-then-has_room-clause-out_after : goal.returns-then-has_room-clause-out_after
 returns-then-has_room-clause-out_after c = (told (sym c.has_room.ensures ∙ c.if-has_room.true) c.write_end.ensures).1
 
-pub returns-clause-value : goal.returns-clause-value
-returns-clause-value c =
+pub returns-else-has_room-clause-value : goal.returns-else-has_room-clause-value
+returns-else-has_room-clause-value c =
     let a = c.args in
     let s = lent a.lists in
     (untold a.out.now (end_text a.stop s a.standing) a.at 1386 (sym c.has_room.ensures ∙ c.if-has_room.false)).0
 
-pub returns-clause-out_after : goal.returns-clause-out_after
-returns-clause-out_after c =
+pub returns-else-has_room-clause-out_after : goal.returns-else-has_room-clause-out_after
+returns-else-has_room-clause-out_after c =
     let a = c.args in
     let s = lent a.lists in
     (untold a.out.now (end_text a.stop s a.standing) a.at 1386 (sym c.has_room.ensures ∙ c.if-has_room.false)).1

@@ -1,12 +1,15 @@
 -- `write_end` meets its contract: where the reader stopped, one by one. Assumes nothing.
+use mathlib.Core.Logic.{inl, inr}
 use Rattle.why_prints.proofs.Texts.{nothing_put, refusal_put}
 use Rattle.why_prints.proofs.write_end.Goals as goal
 
 pub returns-in-Wants : goal.returns-in-Wants
-returns-in-Wants c = let a = c.args in rw c.in-Wants.is (nothing_put a.out.now a.at 1386)
-
-pub returns-in-Full : goal.returns-in-Full
-returns-in-Full c = let a = c.args in rw c.in-Full.is (nothing_put a.out.now a.at 1386)
+returns-in-Wants c =
+    let a = c.args in
+    elim c.in-Wants.is [
+      | inl e ↦ rw e (nothing_put a.out.now a.at 1386)
+      | inr e ↦ rw e (nothing_put a.out.now a.at 1386)
+    ]
 
 pub returns-in-Over : goal.returns-in-Over
 returns-in-Over c = rw c.in-Over.is c.write_answers.ensures

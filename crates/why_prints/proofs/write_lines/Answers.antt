@@ -1,5 +1,5 @@
 -- `write_lines` meets its contract: line by line, and there are sixteen threads at most. Assumes nothing.
-use Rattle.std.proofs.Common.{◌≡◌, ◌≤◌, arith}
+use Rattle.std.proofs.Common.{◌≡◌, arith}
 use Rattle.machine.specs.Lists.{lent}
 use Rattle.why_code.specs.ByValue.{told_of}
 use Rattle.why_prints.proofs.Texts.{begins, goes_on, all_there}
