@@ -69,13 +69,13 @@ module _
 
   pub run_refused : (why : Refusal) → r.ran.refusal ≡ Some why → Err why ≡ told_of s count L recs i
   unfolding told_of told_by
-  run_refused why is_why =
-      let (not_none, same) = some_some s (run_refusal_of s count L l) why (sym told ∙ is_why) in
+  run_refused why some =
+      let (not_none, same) = some_some s (run_refusal_of s count L l) why (sym told ∙ some) in
       rw (run_first s count L l i not_none, ne_eqb _ 0 not_none) (ap Err (sym same))
 
   module _ (none : r.ran.refusal ≡ None) where
     no_refusal : run_refusal_of s count L l ≡ 0
-    no_refusal = none_some s _ (sym told ∙ none)
+    no_refusal = none_some s (run_refusal_of s count L l) (sym told ∙ none)
 
     row_told : trace' ≡ words_of ((step S L l i).row ∷ []) ++ drop row_words trace
     row_told = (one_entry_by_value s count L recs i 1 trace r trace' is trace_is none (omega arith) room).4

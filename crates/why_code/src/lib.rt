@@ -27,8 +27,8 @@ pub fn why(
 {
     let mut row = [0; ROW_WORDS];
     let left = run::run(lists, lock, recs, count, &[thread], 1, &mut row);
-    if let Some(why) = left.ran.refusal {
-        return Err(why);
+    if let Some(refusal) = left.ran.refusal {
+        return Err(refusal);
     }
     let [_, access, answer, got, ..] = row;
     if answer != NONE {

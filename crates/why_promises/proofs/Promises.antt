@@ -23,10 +23,12 @@ use Rattle.lock.specs.ByValue.{run_refusal_of, run_of}
 use Rattle.lock.specs.Run.{ran_of}
 use Rattle.lock.specs.declared.run.RunReturn.{RunReturn}
 use Rattle.lock.proofs.Refusing.{none_refused, no_number, number_beside}
+use Rattle.lock.proofs.Told.{none_some}
 use Rattle.lock_promises.specs.Answers.{AtRunOf}
 use Rattle.lock_promises.specs.Reached.{row_in}
 use Rattle.lock_promises.proofs.Answers.{run_answer_by_value}
-use Rattle.lock_promises.proofs.Refusing.{run_told, run_told_by_value}
+use Rattle.lock_promises.specs.Given.{refusal_in}
+use Rattle.lock_promises.proofs.Refusing.{run_told, run_told_by_value, in_some}
 use Rattle.lock_promises.proofs.Promises.{runs_go_on_by_value}
 use Rattle.lock_promises.proofs.Reached.{runs_on, comes}
 use Rattle.lock_promises.proofs.Accesses.{one_entry, one_entry_by_value}
@@ -80,7 +82,7 @@ run_exact_of : (s : Lent) (count : ℕ) (L : Lock) (recs : List Rec) → Exact (
 run_exact_of s count L recs =
     let a = run_refusal_of s count L (take count recs) in
     let r : RunReturn = ran_of count recs (run_of s count L recs [] 0 []) in
-    let number : r.refusal.number ≡ a = ap (λ (x : Refusal). x.number) (run_told_by_value s count L recs [] 0 [] r refl) ∙ number_beside s a in
+    let number : (refusal_in r.ran.refusal).number ≡ a = ap (λ (x : Refusal). x.number) (ap refusal_in (run_told_by_value s count L recs [] 0 [] r refl) ∙ in_some s a) ∙ number_beside s a in
     rw number at (run_answer_by_value s count L recs [] 0 [] r refl).0
 
 pub answered_by_value : AnsweredByValue
@@ -113,8 +115,8 @@ unfolding told_of
 asked_of_reached_by_value s q m v count L recs rows reached i r is =
     let l = take count recs in
     let ran : RunReturn = ran_of count recs (run_of s count L recs [] 0 []) in
-    let none = no_number s (run_refusal_of s count L l) ran.refusal (run_told_by_value s count L recs [] 0 [] ran refl)
-    (runs_go_on_by_value s q m v count L recs rows reached [] 0 [] ran refl) in
+    let none = none_some s (run_refusal_of s count L l) (sym (run_told_by_value s count L recs [] 0 [] ran refl)
+    ∙ runs_go_on_by_value s q m v count L recs rows reached [] 0 [] ran refl) in
     as_entry s L l i (why_refusal_of s count L l i) (AtRunOf s count L l) ((run_exact_of s count L recs).1.0 none) (then_entry s count L l i none) r is
     (answered_by_value s count L recs i r is)
 
@@ -139,7 +141,7 @@ pub shown_by_run_by_value : ShownByRunByValue
 unfolding told_of
 shown_by_run_by_value s count L recs i r is trace ran trace' ran_is trace_is none room =
     let l = take count recs in
-    let no_refusal = no_number s (run_refusal_of s count L l) ran.refusal (run_told_by_value s count L recs (i ∷ []) 1 trace ran ran_is) none in
+    let no_refusal = none_some s (run_refusal_of s count L l) (sym (run_told_by_value s count L recs (i ∷ []) 1 trace ran ran_is) ∙ none) in
     let words = (one_entry_by_value s count L recs i 1 trace ran trace' ran_is trace_is none (omega arith) room).4 in
     shows_here s L l i (why_refusal_of s count L l i) (then_entry s count L l i no_refusal) r is (row_in trace') (row_in_lem (step (scripts_of s) L l i).row (drop row_words trace) trace' words)
 

@@ -63,7 +63,7 @@ abbrev pub ShownByRunByValue : Type 0
 ShownByRunByValue =
     (s : Lent) (count : ℕ) (L : Lock) (recs : List Rec) (i : ℕ) (r : Result Reason Refusal) → ToldByValue s count L recs i r
     → (trace : List ℕ) (ran : RunReturn) (trace' : List ℕ) → ReturnedByRun s count L recs (i ∷ []) 1 trace ran
-    → LeftByRun s count L recs (i ∷ []) 1 trace trace' → ran.refusal.number ≡ 0 → row_words ≤ length trace
+    → LeftByRun s count L recs (i ∷ []) 1 trace trace' → ran.ran.refusal ≡ None → row_words ≤ length trace
     → Shows L r (row_in trace')
 
 -- ---- demand 3: in a tidy state whoever is named has a way on, a full count goes down, who finds the count changed looks again, and no dropped handle

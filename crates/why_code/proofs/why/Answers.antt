@@ -9,7 +9,7 @@ pub returns-in-Some : goal.returns-in-Some
 returns-in-Some c =
     let a = c.args in
     let left = c.run-left in
-    run_refused (lent a.lists) a.count a.lock a.recs a.thread _ (omega arith) left.result _ left.ensures.value left.ensures.trace_after c.in-Some.x c.in-Some.is
+    run_refused (lent a.lists) a.count a.lock a.recs a.thread _ (omega arith) left.result _ left.ensures.value left.ensures.trace_after _ c.in-Some.is
 
 pub returns-then-answer-ne-NONE : goal.returns-then-answer-ne-NONE
 returns-then-answer-ne-NONE c =
