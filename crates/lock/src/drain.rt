@@ -27,7 +27,8 @@ pub struct DrainReturn {
     pub recs: [Rec; 16],
 }
 
-// Where a thread stops: at Idle or at WriteWait, at Idle, at its script's end.
+// Where a thread stops: at Idle or at WriteWait, at Idle, at its script's end. An enum and no closures: lock_order sweeps by it too, so that
+// each test would be written twice, and four contracts, which say `stop_of stop`, would range over whatever a closure answers.
 #[derive(Clone, Copy)]
 pub enum Stop {
     IdleOrWait,

@@ -40,7 +40,13 @@ fn at_idle(i: u64, lock: Lock, rec: Rec, op: u64) -> Did
     match op {
         ACQUIRE_READ => load_rc(lock, rec),
         ACQUIRE_WRITE => try_exc(lock, rec),
-        _ => try_exc(lock_words::with_mover(lock, Some(i)), rec),
+        _ => try_exc(
+            Lock {
+                mover: Some(i),
+                ..lock
+            },
+            rec,
+        ),
     }
 }
 
@@ -105,7 +111,7 @@ fn try_rc(lock: Lock, rec: Rec) -> Did
 {
     let seen = rec.seen;
     let x = lock_access::exchange_count(lock.rc, seen, Count(seen.0 + 1));
-    let after = lock_words::with_rc(lock, x.left);
+    let after = Lock { rc: x.left, ..lock };
     if x.done {
         does(
             after,
@@ -135,7 +141,7 @@ fn give_back(lock: Lock, rec: Rec) -> Did
 {
     let x = lock_access::lower_count(lock.rc);
     does(
-        lock_words::with_rc(lock, x.left),
+        Lock { rc: x.left, ..lock },
         lock_words::goes(rec, Place::Idle),
         GIVES_BACK,
         x.old.0,
@@ -156,7 +162,7 @@ fn release(lock: Lock, rec: Rec) -> Did
 {
     let x = lock_access::lower_count(lock.rc);
     does(
-        lock_words::with_rc(lock, x.left),
+        Lock { rc: x.left, ..lock },
         next(rec, Place::Idle),
         RELEASES_RC,
         x.old.0,
@@ -169,7 +175,10 @@ fn drop_read(lock: Lock, rec: Rec) -> Did
     ensures { result ≡ read_dropped lock rec }
 {
     does(
-        lock_words::with_reads(lock, Count(lock.reads.0 + 1)),
+        Lock {
+            reads: Count(lock.reads.0 + 1),
+            ..lock
+        },
         next(rec, Place::Idle),
         DROPS_HANDLE,
         NOTHING,
@@ -181,7 +190,10 @@ fn try_exc(lock: Lock, rec: Rec) -> Did
     ensures { result ≡ try_exc lock rec }
 {
     let x = lock_access::raise_flag(lock.exc);
-    let after = lock_words::with_exc(lock, x.left);
+    let after = Lock {
+        exc: x.left,
+        ..lock
+    };
     if x.done {
         does(
             after,
@@ -212,7 +224,10 @@ fn take(lock: Lock, rec: Rec) -> Did
 {
     let x = lock_access::take_cell(lock.cell);
     does(
-        lock_words::with_cell(lock, x.left),
+        Lock {
+            cell: x.left,
+            ..lock
+        },
         lock_words::rec_at(rec.at + 1, Place::Writing, Count(0), x.got),
         TAKES_CELL,
         x.got,
@@ -225,7 +240,12 @@ fn take_last(lock: Lock, rec: Rec) -> Did
 {
     let x = lock_access::take_cell(lock.cell);
     does(
-        lock_words::with_end(lock, x.left),
+        Lock {
+            cell: x.left,
+            mover: None,
+            finished: true,
+            ..lock
+        },
         next(rec, Place::Idle),
         TAKES_CELL,
         x.got,
@@ -238,7 +258,10 @@ fn put(lock: Lock, rec: Rec, v: u64) -> Did
 {
     let x = lock_access::put_cell(lock.cell, v);
     does(
-        lock_words::with_cell(lock, x.left),
+        Lock {
+            cell: x.left,
+            ..lock
+        },
         lock_words::goes(rec, Place::WritePut),
         PUTS_CELL,
         v,
@@ -251,7 +274,10 @@ fn store(lock: Lock, rec: Rec) -> Did
 {
     let x = lock_access::clear_flag(lock.exc);
     does(
-        lock_words::with_exc(lock, x.left),
+        Lock {
+            exc: x.left,
+            ..lock
+        },
         next(rec, Place::Idle),
         STORES_EXC,
         NOTHING,
@@ -264,7 +290,10 @@ fn drop_write(lock: Lock, rec: Rec) -> Did
     ensures { result ≡ write_dropped lock rec }
 {
     does(
-        lock_words::with_writes(lock, Count(lock.writes.0 + 1)),
+        Lock {
+            writes: Count(lock.writes.0 + 1),
+            ..lock
+        },
         next(rec, Place::Idle),
         DROPS_HANDLE,
         NOTHING,
