@@ -36,18 +36,18 @@ at_reading:
 at_take:
 at_writing:
 load_rc: lock_access::load_count 1
-try_rc: lock_access::exchange_count 1
+try_rc: lock_access::exchange_count 2
 load_exc: lock_access::load_flag 1
-give_back: lock_access::lower_count 1
+give_back: lock_access::lower_count 2
 lend: lock_access::borrow_cell 1
-release: lock_access::lower_count 1
+release: lock_access::lower_count 2
 drop_read:
-try_exc: lock_access::raise_flag 1
+try_exc: lock_access::raise_flag 2
 wait_rc: lock_access::load_count 1
-take: lock_access::take_cell 1
-take_last: lock_access::take_cell 1
-put: lock_access::put_cell 1
-store: lock_access::clear_flag 1
+take: lock_access::take_cell 2
+take_last: lock_access::take_cell 2
+put: lock_access::put_cell 2
+store: lock_access::clear_flag 2
 drop_write:
 next:
 does:
