@@ -9,7 +9,7 @@ returns c =
     let t = c.in_ok-thread.thread in
     let n = c.in_ok-times.times in
     let few : t.value < 256 = omega (arith, c.if-thread-ge-THREADS.false) in
-    let some : 0 < n.value = omega (arith, c.if-times-eq0.false) in (
+    let some : 0 < n.value = omega arith in (
       some,
       run_stands a.s.now a.from t.at n.at t.value n.value (c.stands.ensures c.if-not-stands.false)
           (c.in_ok-thread.ensures (omega arith)) (c.stands-else-thread-ge-THREADS.ensures c.if-not-stands-2.false) (c.in_ok-times.ensures c.if-times-ge-TIMES.false)
