@@ -5,7 +5,7 @@
 
 ghost use Rattle.std.specs.Prelude.{◌≤◌, ◌≡◌, length};
 
-use lock_words::names::NONE;
+use machine::Lists;
 use program_chunks::Input;
 use program_intake::{Came, Intake, Room};
 use program_out::{Lost, Outputs};
@@ -148,17 +148,20 @@ fn drain(
 ) -> Result<(), Lost> {
     let read = intake.state.read;
     let standing = program_intake::standing_of(intake);
+    let lists = Lists {
+        lens: scenario_read::upto(&room.lens, read.threads),
+        ops: scenario_read::upto(&room.ops, read.count),
+        vals: scenario_read::upto(&room.vals, read.count),
+    };
     let answer = lock_order::drain_order(
-        scenario_read::upto(&room.lens, read.threads),
-        scenario_read::upto(&room.ops, read.count),
-        scenario_read::upto(&room.vals, read.count),
+        lists,
         standing.lock,
         standing.recs,
         read.threads,
         order,
     );
-    if answer.refusal.number != NONE {
-        say_refused(to.err, answer.refusal.number, out);
+    if let Some(why) = answer.refusal {
+        say_refused(to.err, why.number, out);
         return Ok(());
     }
     write_lines(to, within, order, answer.n, out)?;
