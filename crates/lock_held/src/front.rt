@@ -66,24 +66,11 @@ pub(crate) fn run_rest(
 {
     let n = exchange::at_most_sixteen(count);
     let mut rs = recs;
-    let ran = run::run_rest(
-        lists,
-        lock,
-        &mut rs[..n],
-        schedule,
-        budget,
-        used,
-        trace,
-    );
+    let ran = run::run_rest(lists, lock, &mut rs[..n], schedule, budget, used, trace);
     RunReturn { ran, recs: rs }
 }
 
-pub(crate) fn drain(
-    lists: Lists,
-    lock: Lock,
-    recs: [Rec; 16],
-    count: usize,
-) -> DrainReturn
+pub(crate) fn drain(lists: Lists, lock: Lock, recs: [Rec; 16], count: usize) -> DrainReturn
     ensures { result ≡ drained_of (min count 16) recs (drain_lent (lent lists.entry) lock (take (min count 16) recs)) }
 {
     let n = exchange::at_most_sixteen(count);

@@ -20,14 +20,7 @@ use machine::{Lists, Lock, Rec};
 
 mod front;
 
-pub fn setup(
-    pred: Pred,
-    top: Count,
-    first: u64,
-    lists: Lists,
-    recs: [Rec; 16],
-    count: u64,
-) -> Begun
+pub fn setup(pred: Pred, top: Count, first: u64, lists: Lists, recs: [Rec; 16], count: u64) -> Begun
     ensures { result ≡ begun_of pred top.0 first (lent lists.entry) count recs }
 {
     if count > MOST_THREADS {
@@ -51,15 +44,7 @@ pub fn run(
     if count > MOST_THREADS {
         return run::run(lists, lock, recs, count, schedule, budget, trace);
     }
-    front::run(
-        lists,
-        lock,
-        recs,
-        count as usize,
-        schedule,
-        budget,
-        trace,
-    )
+    front::run(lists, lock, recs, count as usize, schedule, budget, trace)
 }
 
 pub fn run_rest(
@@ -76,9 +61,7 @@ pub fn run_rest(
     ensures trace_after { trace.new ≡ rest_trace (lent lists.entry) count lock recs schedule.now budget used trace.old }
 {
     if count > MOST_THREADS {
-        return run::run_rest(
-            lists, lock, recs, count, schedule, budget, used, trace,
-        );
+        return run::run_rest(lists, lock, recs, count, schedule, budget, used, trace);
     }
     front::run_rest(
         lists,
@@ -92,12 +75,7 @@ pub fn run_rest(
     )
 }
 
-pub fn drain(
-    lists: Lists,
-    lock: Lock,
-    recs: [Rec; 16],
-    count: u64,
-) -> DrainReturn
+pub fn drain(lists: Lists, lock: Lock, recs: [Rec; 16], count: u64) -> DrainReturn
     ensures { result ≡ drained_of count recs (drain_of (lent lists.entry) count lock recs) }
 {
     if count > MOST_THREADS {

@@ -7,7 +7,7 @@ use Rattle.lock_lent.proofs.run.run_rest.Goals as goal
 pub returns : goal.returns
 returns c =
     let before = row_words * c.args.used in
-    let made = run_back c.args.recs.now _ _ _ c.blank-blank.ensures c.exchange-taken.ensures.value c.exchange-taken.ensures.recs_after _ c.args.lock _ _ (drop before c.args.trace.now) _ _ _ c.run_rest-left.ensures.value c.exchange.ensures.recs_after refl in
+    let made = run_back c.args.recs.now _ _ _ c.blank.ensures c.exchange-taken.ensures.value c.exchange-taken.ensures.recs_after _ c.args.lock _ _ (drop before c.args.trace.now) _ _ _ c.run_rest-left.ensures.value c.exchange.ensures.recs_after refl in
     record {
       value = made.0;
       recs_after = made.1;
