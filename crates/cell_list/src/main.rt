@@ -6,7 +6,7 @@
 #![tactic(auto)]
 
 use atomic::CellId;
-use cell::inv::Made;
+use cell::inv::InvCell;
 use cell::value::Perm;
 use cell::{Answer, Refusal, inv, pred, value};
 use replay::reading::Reading;
@@ -125,7 +125,7 @@ impl TryFrom<u64> for Code {
 #[derive(Clone, Copy)]
 struct Cells {
     content: Option<u64>,
-    made: Made,
+    made: Result<InvCell, Refusal>,
 }
 
 // The call's number and its operands. One that the call has no use for is 0.
@@ -155,7 +155,7 @@ fn start_cells() -> Cells {
     }
 }
 
-fn no_cell() -> Made {
+fn no_cell() -> Result<InvCell, Refusal> {
     Err(Refusal::NotPermitted)
 }
 
