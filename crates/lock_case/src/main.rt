@@ -32,7 +32,14 @@ fn replay(to: Stdout, lists: Lists, lock: Lock, recs: [Rec; 16]) {
     let one = lock_held::run(lists, lock, recs, THREADS, &first, 3, &mut trace);
     let cycle = [1u64, 1, 0, 0, 2, 0, 0, 1, 1, 2];
     let two = lock_held::run_rest(
-        lists, one.ran.lock, one.recs, THREADS, &cycle, 10, one.ran.n, &mut trace,
+        lists,
+        one.ran.lock,
+        one.recs,
+        THREADS,
+        &cycle,
+        10,
+        one.ran.n,
+        &mut trace,
     );
     print_words(to, &trace);
     print_numbers(to, "run", one.ran.n, one.ran.done);
@@ -54,9 +61,7 @@ fn order(to: Stdout, lists: Lists, lock: Lock, recs: [Rec; 16]) {
     print_numbers(to, "order", asked.n, asked.bound);
     print_words(to, &out);
     let mut trace = [99u64; 84];
-    let left = lock_held::run(
-        lists, lock, recs, THREADS, &out, asked.n, &mut trace,
-    );
+    let left = lock_held::run(lists, lock, recs, THREADS, &out, asked.n, &mut trace);
     print_numbers(to, "run", left.ran.n, left.ran.done);
 }
 

@@ -153,13 +153,7 @@ fn drain(
         ops: scenario_read::upto(&room.ops, read.count),
         vals: scenario_read::upto(&room.vals, read.count),
     };
-    let answer = lock_order::drain_order(
-        lists,
-        standing.lock,
-        standing.recs,
-        read.threads,
-        order,
-    );
+    let answer = lock_order::drain_order(lists, standing.lock, standing.recs, read.threads, order);
     if let Some(why) = answer.refusal {
         say_refused(to.err, why.number, out);
         return Ok(());
