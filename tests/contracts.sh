@@ -1,6 +1,7 @@
 #!/bin/sh
-# Every public function of a library: no `requires`, an equation for what it returns, and for each `&mut` parameter an equation for what it
-# holds at exit. usage: tests/contracts.sh [ROOT]
+# Every public function of a library, a method of a public trait and of what has it lent too: no `requires`, an equation for what it returns, and for
+# each `&mut` parameter, `self` among them, an equation for what it holds at exit. Every conversion by `From`: an equation for what it gives.
+# usage: tests/contracts.sh [ROOT]
 set -eu
 root=${1:-$(dirname "$0")/..}
 
@@ -27,22 +28,44 @@ without() {
             if (equates(clause[i], p ".new")) return 1
         return 0
     }
-    /^ *pub fn / { inside = 1; head = ""; said = 0; asks = 0; clauses = 0; begun = 0; name = $0; sub(/.*fn /, "", name); sub(/\(.*/, "", name) }
+    # whether a conversion gives one answer: `λ why number. number ≡ ..`, whose other side does not name the number
+    function gives(line,    part, n) {
+        sub(/^[^λ]*λ */, "", line)
+        n = index(line, ".")
+        if (!n || split(substr(line, 1, n - 1), part, " ") != 2) return 0
+        line = substr(line, n + 1)
+        sub(/ *} *;.*/, "", line)
+        n = index(line, " " part[2] " ≡ ")
+        return n == 1 && !index(" " substr(line, length(part[2]) + 5) " ", " " part[2] " ")
+    }
+    /^pub trait / { trait = 1 }
+    /^impl From</ { converts = 1; given = 0; name = $0; sub(/ *\{$/, "", name) }
+    converts && /^ *ghost from_gives / { given = gives($0) }
+    /^}/ {
+        if (converts) {
+            conversions++
+            if (!given) lacks("no equation for what it gives")
+        }
+        trait = converts = 0
+    }
+    /^ *pub fn / || (trait && /^ *fn /) { inside = 1; head = ""; said = 0; asks = 0; clauses = 0; begun = 0; name = $0; sub(/.*fn /, "", name); sub(/\(.*/, "", name) }
     inside && /^ *requires/ { asks = 1; begun = 1 }
     inside && /^ *ensures/ { begun = 1; if (result_said($0)) said = 1; clause[++clauses] = $0 }
     inside && !begun { head = head " " $0 }
-    inside && /\{$/ {
+    inside && (trait ? /;$/ : /\{$/) {
         inside = 0
-        all++
+        if (trait) methods++
+        else all++
         if (asks) lacks("a requires")
         if (head ~ /->/ && !said) lacks("no equation for what it returns")
-        while (match(head, /[a-z0-9_]+: &mut/)) {
-            p = substr(head, RSTART, RLENGTH - 6)
+        while (match(head, /[a-z0-9_]+: &mut|&mut self/)) {
+            p = substr(head, RSTART, RLENGTH)
             head = substr(head, RSTART + RLENGTH)
+            p = p == "&mut self" ? "self" : substr(p, 1, length(p) - 6)
             if (!at_exit(p)) lacks("no equation for " p " at exit")
         }
     }
-    END { print all + 0 }' "$@"
+    END { print all + 0, methods + 0, conversions + 0 }' "$@"
 }
 
 room=$(mktemp -d)
@@ -85,6 +108,24 @@ pub fn alike(a: &mut [u64], b: &mut [u64])
     ensures a_after { a.new ≡ a.old }
     ensures b_after { b.new ≡ a.new }
 {
+pub fn of_self(&mut self, x: u64) -> u64
+    ensures value { result ≡ x }
+{
+pub trait Wrong: Copy {
+    fn asks(self) -> u64
+        ensures { result ≤ 43 };
+}
+impl From<Wrong> for u64 {
+    ghost from_gives = { λ why n. n ≤ 43 };
+}
+impl From<Bare> for u64 {
+    fn from(why: Bare) -> u64 {
+    }
+}
+impl From<Itself> for u64 {
+    ghost from_gives = { λ why n. n ≡ n };
+}
 END
-[ "$(without "$room/wrong.rt" | wc -l)" -eq 7 ] || { echo "contracts: a wrong contract is not seen" >&2; exit 1; }
-echo "contracts: $(cat "$room/found") public functions, each with an equation for its result and for every lent list, but for the one that reads standard input; 6 wrong ones seen"
+[ "$(without "$room/wrong.rt" | wc -l)" -eq 12 ] || { echo "contracts: a wrong contract is not seen" >&2; exit 1; }
+set -- $(cat "$room/found")
+echo "contracts: $1 public functions, $2 methods of public traits and $3 conversions, each with an equation for its result and for every lent list, but for the one that reads standard input; 11 wrong ones seen"

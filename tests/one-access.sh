@@ -10,17 +10,27 @@ root=${1:-$(dirname "$0")/..}
 room=$(mktemp -d)
 trap 'rm -rf "$room"' EXIT
 
-# calls FILE: a line for each function with its calls; then how often it names one of the three, if it does
+# calls FILE: a line for each function, those of an `impl` too, with its calls; then how often it names one of the three, if it does. The operations
+# of `atomic_access` are those that `atomic_u64` and `atomic_bool` have at their width, so a call of one is an access too.
 calls() {
     awk '
-    /^(pub |pub\(crate\) )?fn / { name = $0; sub(/.*fn /, "", name); sub(/[(<].*/, "", name) }
-    /^\{/ { body = 1; made = ""; reads = 0; next }
-    /^\}/ { if (body) print name ":" made (reads ? " " reads : ""); body = 0; next }
+    /^ *(pub |pub\(crate\) )?fn / {
+        name = $0
+        sub(/.*fn /, "", name)
+        sub(/[(<].*/, "", name)
+        match($0, /^ */)
+        margin = RLENGTH
+        head = 1
+        clauses = 0
+    }
+    head && /^ *(requires|ensures)/ { clauses = 1 }
+    head && (clauses ? /^ *\{$/ : /\{$/) { head = 0; body = 1; made = ""; reads = 0; next }
+    body && /^ *\}$/ && match($0, /^ */) && RLENGTH == margin { print name ":" made (reads ? " " reads : ""); body = 0; next }
     body {
         line = $0
         sub(/\/\/.*/, "", line)
         reads += gsub(/(^|[^a-z_])(exc|rc|cell)([^a-z_]|$)/, "&", line)
-        while (match(line, /(lock_access|atomic_u64|atomic_bool|value)::[a-z_]+\(/)) {
+        while (match(line, /(lock_access|atomic_access|atomic_u64|atomic_bool|value)::[a-z_]+\(/)) {
             made = made " " substr(line, RSTART, RLENGTH - 1)
             line = substr(line, RSTART + RLENGTH)
         }
@@ -103,4 +113,6 @@ wrong lock_access/src/lib.rt 'cell_told(value::borrow(CELL, cell_perm(CELL, cell
 wrong lock_access/src/lib.rt 'atomic_u64::fetch_sub(' 'atomic_u64::swap('
 wrong lock/src/entry.rt 'lock\.finished ||' 'lock_access::load_flag(lock.exc).old ||'
 wrong lock_words/src/lib.rt 'mover == Some(i)' 'value::take(CELL, perm); mover == Some(i)'
-echo "one-access: the 12 accesses of the table, each made once; 8 wrong programs seen"
+wrong lock_access/src/lib.rt 'told(atomic_u64::load(COUNT, perm(COUNT, rc)), Count(0))' 'told(atomic_u64::load(COUNT, atomic_access::load(COUNT, perm(COUNT, rc)).perm), Count(0))'
+wrong lock_words/src/names.rt 'number: u64::from(why),' 'number: value::take(CELL, perm).answer,'
+echo "one-access: the 12 accesses of the table, each made once; 10 wrong programs seen"
