@@ -5,6 +5,8 @@
 // nothing of the list is passed over, and the number of rows shows where some of it is missing.
 #![tactic(auto)]
 
+ghost use Rattle.std.specs.Prelude.{◌≡◌};
+
 use atomic::{CellId, Count};
 use atomic_access::{Answer, Did, Number, Perm, Value};
 use replay::reading::Reading;
@@ -233,18 +235,62 @@ fn on_value<V: Value>(operation: &[u8], c: CellId, p: Perm<V>, a: V, b: V) -> Op
 fn in_numbers<V: Copy, F: Fn(V) -> u64>(did: Did<V>, number: F) -> Outcome
     requires { F.IsAlwaysCallable number }
 {
-    let (why, arm, got) = match did.answer {
-        Answer::Old(old) => (0, 1, number(old)),
-        Answer::Failed(old) => (0, 2, number(old)),
-        Answer::Stored => (0, 0, 0),
-        Answer::Refused(why) => (u64::from(why), 0, 0),
-    };
+    let left = number(did.perm.value);
+    let permission = did.perm.id.0;
+    match did.answer {
+        Answer::Old(v) => old(number(v), left, permission),
+        Answer::Failed(v) => failed(number(v), left, permission),
+        Answer::Stored => stored(left, permission),
+        Answer::Refused(why) => refused(u64::from(why), left, permission),
+    }
+}
+
+// An outcome for each arm of an answer.
+fn old(got: u64, left: u64, permission: u64) -> Outcome
+    ensures { result ≡ record { number = 0; arm = 1; got = got; left = left; permission = permission } }
+{
     Outcome {
-        number: why,
-        arm,
+        number: 0,
+        arm: 1,
         got,
-        left: number(did.perm.value),
-        permission: did.perm.id.0,
+        left,
+        permission,
+    }
+}
+
+fn failed(got: u64, left: u64, permission: u64) -> Outcome
+    ensures { result ≡ record { number = 0; arm = 2; got = got; left = left; permission = permission } }
+{
+    Outcome {
+        number: 0,
+        arm: 2,
+        got,
+        left,
+        permission,
+    }
+}
+
+fn stored(left: u64, permission: u64) -> Outcome
+    ensures { result ≡ record { number = 0; arm = 0; got = 0; left = left; permission = permission } }
+{
+    Outcome {
+        number: 0,
+        arm: 0,
+        got: 0,
+        left,
+        permission,
+    }
+}
+
+fn refused(number: u64, left: u64, permission: u64) -> Outcome
+    ensures { result ≡ record { number = number; arm = 0; got = 0; left = left; permission = permission } }
+{
+    Outcome {
+        number,
+        arm: 0,
+        got: 0,
+        left,
+        permission,
     }
 }
 
