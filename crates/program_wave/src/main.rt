@@ -2,7 +2,7 @@
 // waveform of the rows before it, with what is known of its line, in numbers.
 #![tactic(auto)]
 
-ghost use Rattle.std.specs.Prelude.{◌+◌, ◌*◌, ◌/◌, ◌≤◌, ◌≡◌, cond, leb, length, IfOk};
+ghost use Rattle.std.specs.Prelude.{◌+◌, ◌*◌, ◌/◌, ◌≤◌, ◌≡◌, cond, leb, length, IfOk, IfSome};
 ghost use Rattle.std.proofs.lemmas.List.Edits.{sets};
 ghost use Rattle.vcd.specs.Trace.{row_signals};
 ghost use Rattle.vcd_rows.specs.Waves.{left_by, text_by};
@@ -113,28 +113,42 @@ fn on_chunk(
     requires { 93 * (length rows.old / 6) ≤ length out.old }
 {
     let came = room.take_more(run.intake, got, chunk, rows);
-    let intake = came.intake;
     let n = came.at / ROW_WORDS;
     let from = make_room(to, n, out, run.at)?;
     let Left { wave, at } = put_rows(run.wave, rows, n, out, from);
-    let over = scenario_read::ends(came.stop);
-    let ends = got.failed || over;
+    let next = Run {
+        intake: came.intake,
+        wave,
+        at,
+    };
+    let ends = got.failed || scenario_read::ends(came.stop);
     if scenario_read::is_full(came.stop) && !ends {
-        return Ok(Some(Run { intake, wave, at }));
+        return Ok(Some(next));
     }
-    to.judge(to.out.write_all(program_chunks::front(out, at)))?;
-    if over {
-        let len = program_told::length_in_turn(run.intake, got, came, chunk);
-        close(to, came, wave, len, &room.line, out)?;
+    let len = program_told::length_in_turn(run.intake, got, came, chunk);
+    write_on(to, next, came, ends, len, &room.line, out)
+}
+
+// What waits is written, and at the end of the scenario the close. Nothing waits for the next turn, if one comes.
+fn write_on(
+    to: Outputs,
+    run: Run,
+    came: Came,
+    ends: bool,
+    len: usize,
+    line: &[u8],
+    out: &mut [u8],
+) -> Result<Option<Run>, Lost>
+    ensures { IfOk result (λ next. IfSome next (λ r. r.at ≡ 0)) }
+{
+    to.judge(to.out.write_all(program_chunks::front(out, run.at)))?;
+    if scenario_read::ends(came.stop) {
+        close(to, came, run.wave, len, line, out)?;
     }
     if ends {
         return Ok(None);
     }
-    Ok(Some(Run {
-        intake,
-        wave,
-        at: 0,
-    }))
+    Ok(Some(Run { at: 0, ..run }))
 }
 
 // What waits is written where the changes of n rows have no room behind it. From where on there is room for them.
