@@ -1,6 +1,7 @@
 #!/bin/sh
 # Every public function of a library, a method of a public trait and of what has it lent too: no `requires`, an equation for what it returns, and for
 # each `&mut` parameter, `self` among them, an equation for what it holds at exit. Every conversion by `From`: an equation for what it gives.
+# A clause is read where it stands in one line, and so is `from_gives = { λ why number. .. }`; another layout counts as none.
 # usage: tests/contracts.sh [ROOT]
 set -eu
 root=${1:-$(dirname "$0")/..}
@@ -39,7 +40,7 @@ without() {
         return n == 1 && !index(" " substr(line, length(part[2]) + 5) " ", " " part[2] " ")
     }
     /^pub trait / { trait = 1 }
-    /^impl From</ { converts = 1; given = 0; name = $0; sub(/ *\{$/, "", name) }
+    /^impl(<[^>]*>)? From</ { converts = 1; given = 0; name = $0; sub(/ *\{$/, "", name) }
     converts && /^ *ghost from_gives / { given = gives($0) }
     /^}/ {
         if (converts) {
@@ -52,16 +53,16 @@ without() {
     inside && /^ *requires/ { asks = 1; begun = 1 }
     inside && /^ *ensures/ { begun = 1; if (result_said($0)) said = 1; clause[++clauses] = $0 }
     inside && !begun { head = head " " $0 }
-    inside && (trait ? /;$/ : /\{$/) {
+    inside && (trait ? /(;|\{)$/ : /\{$/) {
         inside = 0
         if (trait) methods++
         else all++
         if (asks) lacks("a requires")
         if (head ~ /->/ && !said) lacks("no equation for what it returns")
-        while (match(head, /[a-z0-9_]+: &mut|&mut self/)) {
+        while (match(head, /[a-z0-9_]+: &(\047[a-z]+ )?mut|&(\047[a-z]+ )?mut self/)) {
             p = substr(head, RSTART, RLENGTH)
             head = substr(head, RSTART + RLENGTH)
-            p = p == "&mut self" ? "self" : substr(p, 1, length(p) - 6)
+            if (!sub(/:.*/, "", p)) p = "self"
             if (!at_exit(p)) lacks("no equation for " p " at exit")
         }
     }

@@ -14,7 +14,7 @@ trap 'rm -rf "$room"' EXIT
 # of `atomic_access` are those that `atomic_u64` and `atomic_bool` have at their width, so a call of one is an access too.
 calls() {
     awk '
-    /^ *(pub |pub\(crate\) )?fn / {
+    !body && /^ *(pub(\([a-z ]+\))? )?((const|unsafe) )*fn / {
         name = $0
         sub(/.*fn /, "", name)
         sub(/[(<].*/, "", name)
@@ -30,7 +30,7 @@ calls() {
         line = $0
         sub(/\/\/.*/, "", line)
         reads += gsub(/(^|[^a-z_])(exc|rc|cell)([^a-z_]|$)/, "&", line)
-        while (match(line, /(lock_access|atomic_access|atomic_u64|atomic_bool|value)::[a-z_]+\(/)) {
+        while (match(line, /(lock_access|atomic_access|atomic_u64|atomic_bool|value)::[a-z_]+(::<[^(]*>)?\(/)) {
             made = made " " substr(line, RSTART, RLENGTH - 1)
             line = substr(line, RSTART + RLENGTH)
         }
@@ -114,5 +114,7 @@ wrong lock_access/src/lib.rt 'atomic_u64::fetch_sub(' 'atomic_u64::swap('
 wrong lock/src/entry.rt 'lock\.finished ||' 'lock_access::load_flag(lock.exc).old ||'
 wrong lock_words/src/lib.rt 'mover == Some(i)' 'value::take(CELL, perm); mover == Some(i)'
 wrong lock_access/src/lib.rt 'told(atomic_u64::load(COUNT, perm(COUNT, rc)), Count(0))' 'told(atomic_u64::load(COUNT, atomic_access::load(COUNT, perm(COUNT, rc)).perm), Count(0))'
+wrong lock_access/src/lib.rt 'told(atomic_u64::load(COUNT, perm(COUNT, rc)), Count(0))' 'told(atomic_access::load::<Count>(COUNT, perm(COUNT, rc)), Count(0))'
+wrong lock_words/src/lib.rt 'mover == Some(i)' 'atomic_access::load::<Count>(COUNT, perm); mover == Some(i)/; s/pub fn begun/pub const fn begun'
 wrong lock_words/src/names.rt 'number: u64::from(why),' 'number: value::take(CELL, perm).answer,'
-echo "one-access: the 12 accesses of the table, each made once; 10 wrong programs seen"
+echo "one-access: the 12 accesses of the table, each made once; 12 wrong programs seen"
