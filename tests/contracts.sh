@@ -1,6 +1,6 @@
 #!/bin/sh
-# Every public function of a library, a method of a public trait and of what has it lent too: no `requires`, an equation for what it returns, and for
-# each `&mut` parameter, `self` among them, an equation for what it holds at exit. Every conversion by `From`: an equation for what it gives.
+# Every public function of a library, and every method of a public trait: no `requires`, an equation for what it returns, and for each `&mut`
+# parameter, `self` among them, an equation for what it holds at exit. Every conversion by `From`: an equation for what it gives.
 # A clause is read where it stands in one line, and so is `from_gives = { λ why number. .. }`; another layout counts as none.
 # usage: tests/contracts.sh [ROOT]
 set -eu

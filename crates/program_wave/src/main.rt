@@ -129,7 +129,7 @@ fn on_chunk(
     write_on(to, next, came, ends, len, &room.line, out)
 }
 
-// What waits is written, and at the end of the scenario the close. Nothing waits for the next turn, if one comes.
+// What waits is written, and at the end of the scenario the close. The next turn, if one comes, goes on from there, and nothing waits for it.
 fn write_on(
     to: Outputs,
     run: Run,
@@ -139,7 +139,7 @@ fn write_on(
     line: &[u8],
     out: &mut [u8],
 ) -> Result<Option<Run>, Lost>
-    ensures { IfOk result (λ next. IfSome next (λ r. r.at ≡ 0)) }
+    ensures { IfOk result (λ next. IfSome next (λ r. r ≡ record { intake = run.intake; wave = run.wave; at = 0 })) }
 {
     to.judge(to.out.write_all(program_chunks::front(out, run.at)))?;
     if scenario_read::ends(came.stop) {
